@@ -1,0 +1,2 @@
+pub mod ExtendedLemmas
+pub mod ExtendedRows

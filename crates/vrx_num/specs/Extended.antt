@@ -1,0 +1,41 @@
+-- What the 16 bits of a sequence number mean beside the newest number. RFC 3550 A.1 extends a number
+-- by a count of cycles, each of 65,536 numbers; RFC 3711 3.3.1 takes the cycle that lies nearest.
+use Rattle.std.specs.Prelude.{◌≡◌, ℕ, zero, suc, ◌+◌, ◌*◌, ◌/◌, ◌%◌, ◌^◌, ◌<◌, ◌≤◌, max, Bool, ◌&&◌, nat_lt, List, [], ◌∷◌, Option, None, Some, find}
+
+-- n is the number that the wire means: equal modulo the space, and nearer than half of it
+pub record Extends (newest wire n : ℕ) : Type 0 where
+  pub same : n % 65536 ≡ wire
+  pub not_far_ahead : n < newest + 32768
+  pub not_far_behind : newest < n + 32768
+
+-- nearer than half of the space, as a test
+abbrev pub is_nearer_than_half : ℕ → ℕ → Bool
+is_nearer_than_half newest n = nat_lt n (newest + 32768) && nat_lt newest (n + 32768)
+
+-- The numbers that end in wire: in the cycle before this one, in this one, and in the one after.
+-- Before the cycle 0 there is none.
+abbrev pub numbers_around : ℕ → ℕ → List ℕ
+numbers_around zero wire = wire ∷ (65536 + wire) ∷ []
+numbers_around (suc before) wire = (before * 65536 + wire) ∷ ((before + 1) * 65536 + wire) ∷ ((before + 2) * 65536 + wire) ∷ []
+
+-- Before the first packet, the number in the cycle 1, so that packets before it have numbers too.
+-- After it, the number around the newest that is nearer than half of the space to it.
+abbrev pub extended : Option ℕ → ℕ → Option ℕ
+extended None wire = Some (wire + 65536)
+extended (Some newest) wire = find (is_nearer_than_half newest) (numbers_around (newest / 65536) wire)
+
+-- there is a newest number, and the wire number is just half of the space away from it
+abbrev pub IsHalfAway : Option ℕ → ℕ → Type 0
+IsHalfAway None wire = ⊥
+IsHalfAway (Some newest) wire = (wire + 32768) % 65536 ≡ newest % 65536
+
+-- the greater of the newest number, if there is one, and n
+abbrev pub greater : Option ℕ → ℕ → Option ℕ
+greater None n = Some n
+greater (Some newest) n = Some (max newest n)
+
+-- a number that can be the newest: no number that is nearer than half of the space to it is below 0,
+-- and none comes near 2 ^ 64
+pub record IsNewest (n : ℕ) : Type 0 where
+  pub at_least : 32768 ≤ n
+  pub at_most : n ≤ 2 ^ 62

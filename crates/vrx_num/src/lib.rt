@@ -1,0 +1,19 @@
+//! Sequence numbers of 16 bits, extended beyond them after RFC 3550 A.1.
+//!
+//! A packet carries the last 16 bits of its number. [`Extender`] keeps the greatest number taken so
+//! far, and `extend` finds the one number that a wire number means beside it: equal modulo 65,536, and
+//! nearer than 32,768. Just half of the space away no number is nearer, and `extend` gives none.
+//!
+//! `proofs/ExtendedLemmas.antt` has the laws of the definitions, for proofs of crates above.
+#![tactic(auto)]
+
+mod extender;
+mod laws;
+mod no_memory;
+
+pub use extender::Extender;
+pub use laws::extended_is_near;
+pub use no_memory::NoMemory;
+
+#[cfg(test)]
+mod tests;

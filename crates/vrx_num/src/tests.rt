@@ -1,0 +1,37 @@
+use super::*;
+
+#[test]
+fn extends_beside_the_newest(rt: HostRuntime) {
+    for (newest, wire, want) in [
+        (Some(65_536), 65_535, Some(65_535)), // one back, over the wrap
+        (Some(131_070), 2, Some(131_074)), // four ahead, over the wrap
+        (Some(65_536), 32_768, None), // just half of the space away
+        (None, 1, Some(65_537)), // the first
+        (None, 0, Some(65_536)),
+    ] {
+        let mut extender = Extender::new();
+        if let Some(newest) = newest {
+            extender.accept(newest);
+        }
+        assert_eq!(rt; extender.extend(wire), want, "{wire} after {newest:?}");
+    }
+}
+
+#[test]
+fn keeps_the_greater(rt: HostRuntime) {
+    let mut extender = Extender::new();
+    assert_eq!(rt; extender.newest(), None);
+    for (taken, want) in [(65_540, 65_540), (65_538, 65_540), (65_541, 65_541)] {
+        extender.accept(taken);
+        assert_eq!(rt; extender.newest(), Some(want), "after {taken}");
+    }
+}
+
+#[test]
+fn converts_what_an_allocation_answers(rt: HostRuntime) -> Result<(), NoMemory> {
+    let mut numbers = Vec::new(rt.alloc());
+    numbers.push(1u8)?;
+    let copy = numbers.clone()?;
+    assert_eq!(rt; copy.as_slice(), &[1][..]);
+    Ok(())
+}
