@@ -1,0 +1,66 @@
+-- The machine and the payload descriptor on rows worked by hand.
+use Rattle.std.specs.Prelude.{◌≡◌, ℕ, true, false, List, [], ◌∷◌, refl, Some, None, Ok, Err}
+use Rattle.vrx_core.specs.Machine.{ToDatagram, ToPull, replies, reply, snapshots}
+use Rattle.vrx_core.specs.Part.{Yes}
+use Rattle.vrx_core.specs.Descriptor.{read_part, vp8}
+use Rattle.vrx_core.specs.declared.settings.Settings.{Settings}
+use Rattle.vrx_core.specs.declared.event.Event.TheVariants.{Datagram, Pull}
+use Rattle.vrx_core.specs.declared.reply.What.TheVariants.{Media, Dropped}
+use Rattle.vrx_core.specs.declared.reply.Reason.TheVariants.{TooFar, TooOld, Repeat}
+use Rattle.vrx_core.specs.declared.reply.Pulled.TheVariants.{NotReady, Frame}
+
+abbrev settings : Settings
+settings = record { media_ssrc = 10; media_type = 96; from_ssrc = 11 }
+
+-- 80e00001000000000000000a1000aa
+abbrev keyframe : List ℕ
+keyframe = 128 ∷ 224 ∷ 0 ∷ 1 ∷ 0 ∷ 0 ∷ 0 ∷ 0 ∷ 0 ∷ 0 ∷ 0 ∷ 10 ∷ 16 ∷ 0 ∷ 170 ∷ []
+
+-- a keyframe comes out as a frame, once
+pub one_keyframe : replies settings vp8 [] (Datagram 0 keyframe ∷ Datagram 0 keyframe ∷ Pull 1 ∷ Pull 2 ∷ Datagram 0 keyframe ∷ [])
+    ≡ ToDatagram (record { what = Media 65537 }) ∷ ToDatagram (record { what = Dropped Repeat }) ∷ ToPull (Frame (record { first = 65537; last = 65537; ts = 0; key = true; bytes = 0 ∷ 170 ∷ [] })) ∷ ToPull NotReady ∷ ToDatagram (record { what = Dropped Repeat }) ∷ []
+unfolding replies reply snapshots
+one_keyframe = refl
+
+-- no event gives no reply
+pub no_event : replies settings vp8 [] [] ≡ []
+unfolding replies
+no_event = refl
+
+-- a pull alone gives nothing
+pub pull_alone : replies settings vp8 [] (Pull 0 ∷ []) ≡ ToPull NotReady ∷ []
+unfolding replies reply snapshots
+pull_alone = refl
+
+-- the keyframe's packet under another sequence number, by its two octets
+abbrev numbered : ℕ → ℕ → List ℕ
+numbered high low = 128 ∷ 224 ∷ high ∷ low ∷ 0 ∷ 0 ∷ 0 ∷ 0 ∷ 0 ∷ 0 ∷ 0 ∷ 10 ∷ 16 ∷ 0 ∷ 170 ∷ []
+
+-- a packet 32,768 ahead of the newest has no number, and one 32,767 ahead has
+pub too_far : replies settings vp8 [] (Datagram 0 (numbered 0 1) ∷ Datagram 0 (numbered 128 1) ∷ Datagram 0 (numbered 128 0) ∷ [])
+    ≡ ToDatagram (record { what = Media 65537 }) ∷ ToDatagram (record { what = Dropped TooFar }) ∷ ToDatagram (record { what = Media 98304 }) ∷ []
+unfolding replies reply snapshots
+too_far = refl
+
+-- a packet 2,048 below the newest is too old, and one 2,047 below isn't
+pub too_old : replies settings vp8 [] (Datagram 0 (numbered 8 1) ∷ Datagram 0 (numbered 0 1) ∷ Datagram 0 (numbered 0 2) ∷ [])
+    ≡ ToDatagram (record { what = Media 67585 }) ∷ ToDatagram (record { what = Dropped TooOld }) ∷ ToDatagram (record { what = Media 65538 }) ∷ []
+unfolding replies reply snapshots
+too_old = refl
+
+-- 80: the descriptor runs past the end
+pub descriptor_cut : read_part (128 ∷ []) ≡ Err (record { code = 1; at = 1 })
+descriptor_cut = refl
+
+-- 10: no body follows the descriptor
+pub body_missing : read_part (16 ∷ []) ≡ Err (record { code = 2; at = 1 })
+body_missing = refl
+
+-- 90e08001050000aa: the start of a keyframe, with layers
+pub part_with_layers : read_part (144 ∷ 224 ∷ 128 ∷ 1 ∷ 5 ∷ 0 ∷ 0 ∷ 170 ∷ [])
+    ≡ Ok (record { start = Yes; key = true; layers = Some (record { picture = 1; tl0 = 5; tid = 0; sync = false }); body = 0 ∷ 170 ∷ [] })
+part_with_layers = refl
+
+-- 1000aa: the start of a keyframe, without layers
+pub part_alone : read_part (16 ∷ 0 ∷ 170 ∷ []) ≡ Ok (record { start = Yes; key = true; layers = None; body = 0 ∷ 170 ∷ [] })
+part_alone = refl

@@ -1,0 +1,21 @@
+use Rattle.std.proofs.Common.{refl}
+use Rattle.vrx_core.proofs.StandsLemmas.{datagram-stands, datagram-reply, datagram-refused, datagram-settings, datagram-counts}
+use Rattle.vrx_core.proofs.engine.Engine.datagram.Goals as goal
+
+pub returns-clause-stands : goal.returns-clause-stands
+returns-clause-stands c h = datagram-stands c.args.self.now c.handle.new.self c.args.moment c.args.bytes.now c.in_ok-what.what h c.in_ok-what.ensures.value
+
+pub returns-clause-reply : goal.returns-clause-reply
+returns-clause-reply c h = datagram-reply c.args.self.now c.handle.new.self c.args.moment c.args.bytes.now c.in_ok-what.what h c.in_ok-what.ensures.value
+
+pub returns-clause-settings : goal.returns-clause-settings
+returns-clause-settings c = datagram-settings c.args.self.now c.handle.new.self c.args.moment c.args.bytes.now c.in_ok-what.what c.in_ok-what.ensures.value
+
+pub returns-clause-refused : goal.returns-clause-refused
+returns-clause-refused c refused = (refl, datagram-refused c.args.self.now c.handle.new.self c.args.moment c.args.bytes.now c.in_ok-what.what c.in_ok-what.ensures.value refused)
+
+pub returns-clause-what : goal.returns-clause-what
+returns-clause-what c = c.in_ok-what.ensures.value.answer
+
+pub returns-clause-counts : goal.returns-clause-counts
+returns-clause-counts c = datagram-counts c.args.self.now c.handle.new.self c.args.moment c.args.bytes.now c.in_ok-what.what c.in_ok-what.ensures.value

@@ -1,0 +1,111 @@
+-- Runs: the whole frames that lie among the available packets (RFC 7741 4.1, RFC 6184 5.1).
+use Rattle.std.specs.Prelude.{ℕ, zero, suc, ◌+◌, ◌-◌, Bool, true, false, ◌&&◌, ◌||◌, not, ◌==◌, nat_le, if◌then◌else◌, List, [], ◌∷◌, map, Option, Some, None}
+use Rattle.std.specs.List.{list_any, list_all, filter_map, flat_map}
+use Rattle.std.specs.Option.{option_map, option_map_or}
+use Rattle.std.specs.Result.{result_ok}
+use Rattle.vrx_rtp.specs.Packet.{Packet, read}
+use Rattle.vrx_core.specs.Part.{Start, Yes, No, ByNeighbour, Layers, Part}
+use Rattle.vrx_core.specs.Meaning.{Meaning}
+use Rattle.vrx_core.specs.Window.{Content, Media, Fec, Empty, Packets, at, is_available}
+
+infixl 10 ◌>>=◌
+abbrev pub ◌>>=◌ : {A B : Type 0} → Option A → (A → Option B) → Option B
+None >>= f = None
+(Some x) >>= f = f x
+
+-- a number that is available media: its packet, and what its payload says
+pub record Piece : Type 0 where
+  pub number : ℕ
+  pub packet : Packet
+  pub part : Part
+
+abbrev pub text_of : Content → Option (List ℕ)
+text_of (Media text) = Some text
+text_of (Fec payload) = None
+text_of Empty = None
+
+abbrev pub piece_at : Meaning → Packets → ℕ → Option Piece
+piece_at codec packets n = do
+  content ← at n packets
+  text ← text_of content
+  packet ← read text
+  part ← result_ok (codec.read packet.payload)
+  Some (record { number = n; packet = packet; part = part })
+
+-- n, n + 1 and so on, as many as are asked for
+abbrev pub numbers_from : ℕ → ℕ → List ℕ
+numbers_from n zero = []
+numbers_from n (suc more) = n ∷ numbers_from (n + 1) more
+
+-- all values, where each is there
+abbrev pub all_some : {A : Type 0} → List (Option A) → Option (List A)
+all_some [] = Some []
+all_some (o ∷ os) = do
+  x ← o
+  xs ← all_some os
+  Some (x ∷ xs)
+
+-- the stretch of the numbers from first to last, where each is available media
+abbrev pub stretch : Meaning → Packets → ℕ → ℕ → Option (List Piece)
+stretch codec packets first last = all_some (map (piece_at codec packets) (numbers_from first (last + 1 - first)))
+
+-- a packet behind which a frame begins: it has the marker, or is no media
+abbrev pub ends_frame : Content → Bool
+ends_frame (Media text) = option_map_or (λ packet. packet.marker) (read text) false
+ends_frame (Fec payload) = true
+ends_frame Empty = true
+
+-- passed: no frame still needs a number up to the front
+abbrev pub is_passed : Option ℕ → ℕ → Bool
+is_passed None n = false
+is_passed (Some front) n = nat_le n front
+
+-- at the end of some event so far n and the number before were both available, and the number before ended a frame
+abbrev pub began_behind : List Packets → ℕ → Bool
+began_behind times n = list_any (λ packets. is_available n packets && option_map_or ends_frame (at (n - 1) packets) false) times
+
+-- what the payload says, or else the packet before it
+abbrev pub begins : Start → Bool → Bool
+begins Yes behind = true
+begins No behind = false
+begins ByNeighbour behind = behind
+
+-- whether a number is the first of a frame; times are the packets available at the end of each event so far
+abbrev pub is_start : Option ℕ → List Packets → Piece → Bool
+is_start front times piece = begins piece.part.start (is_passed front (piece.number - 1) || began_behind times piece.number)
+
+-- the first passes the test, and no other does
+abbrev pub first_alone : {A : Type 0} → (A → Bool) → List A → Bool
+first_alone test [] = false
+first_alone test (x ∷ xs) = test x && list_all (λ y. not (test y)) xs
+
+-- the last passes the test, and no other does
+abbrev pub last_alone : {A : Type 0} → (A → Bool) → List A → Bool
+last_alone test [] = false
+last_alone test (x ∷ []) = test x
+last_alone test (x ∷ y ∷ ys) = not (test x) && last_alone test (y ∷ ys)
+
+-- a whole frame: its first and last number, its timestamp, whether it is a keyframe, its layers (those of its first
+-- part), its bytes
+pub record Run : Type 0 where
+  pub first : ℕ
+  pub last : ℕ
+  pub ts : ℕ
+  pub key : Bool
+  pub layers : Option Layers
+  pub bytes : List ℕ
+
+-- a stretch is a run where all its packets have one timestamp, the first is a start and no other is, the last has
+-- the marker and no other has, and the parts join
+abbrev pub run_of : Meaning → (Piece → Bool) → ℕ → List Piece → Option Run
+run_of codec starts last [] = None
+run_of codec starts last (piece ∷ pieces) =
+    if list_all (λ p. p.packet.ts == piece.packet.ts) pieces && first_alone starts (piece ∷ pieces) && last_alone (λ p. p.packet.marker) (piece ∷ pieces)
+    then option_map (λ bytes. record { first = piece.number; last = last; ts = piece.packet.ts; key = list_any (λ p. p.part.key) (piece ∷ pieces); layers = piece.part.layers; bytes = bytes }) (result_ok (codec.join (map (λ p. p.part) (piece ∷ pieces))))
+    else None
+
+-- the runs, by their first number and then by their last
+abbrev pub runs : Meaning → Option ℕ → List Packets → Packets → List Run
+runs codec front times packets = flat_map (λ first. filter_map (λ last. stretch codec packets first last >>= run_of codec (is_start front times) last) numbers) numbers where
+  numbers : List ℕ
+  numbers = map (λ entry. entry.0) packets

@@ -1,0 +1,23 @@
+-- A sender: what was sent, whatever came of it. So far a frame has neither layers nor references to other frames, and
+-- a sender sends media packets alone.
+use Rattle.std.specs.Prelude.{ℕ, ◌+◌, ◌%◌, Bool, List}
+
+-- a frame as it was sent: its bytes, whether it is a keyframe, its RTP timestamp (RFC 3550 5.1)
+pub record SentFrame : Type 0 where
+  pub bytes : List ℕ
+  pub key : Bool
+  pub ts : ℕ
+
+-- a packet as it was sent: part k of frame f, both counted from 0, with its text (the RTP packet)
+pub data SentPacket : Type 0 where
+  Media : (frame part : ℕ) (text : List ℕ) → SentPacket
+
+-- the frames and the packets, in order, and the sequence number of the first packet
+pub record Sender : Type 0 where
+  pub first_wire : ℕ
+  pub frames : List SentFrame
+  pub packets : List SentPacket
+
+-- the sequence number of packet i (RFC 3550 5.1: it rises by one for each packet sent)
+abbrev pub wire_of : Sender → ℕ → ℕ
+wire_of sender i = (sender.first_wire + i) % 65536

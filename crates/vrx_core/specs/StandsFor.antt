@@ -1,0 +1,33 @@
+-- The engine as contracts see it, and the history that it stands for.
+use Rattle.std.specs.Prelude.{◌≡◌, ◌≤◌, ◌<◌, ◌⊎◌, ℕ, List, length, All, Option, IsSomeAnd}
+use Rattle.vrx_core.specs.Meaning.{Meaning}
+use Rattle.vrx_core.specs.Window.{Packets}
+use Rattle.vrx_core.specs.History.{now}
+use Rattle.vrx_core.specs.Machine.{latest, last_pulled, snapshots}
+use Rattle.vrx_core.specs.declared.settings.Settings.{Settings}
+use Rattle.vrx_core.specs.declared.event.Event.{Event}
+
+-- the parts of an engine. It keeps no history
+pub record Parts : Type 0 where
+  pub settings : Settings
+  pub events : ℕ
+  pub clock : ℕ
+  pub newest : Option ℕ
+  pub packets : Packets
+  pub last_pulled : Option ℕ
+
+-- each part has the value that the machine gives it after a history, and the clock is the history's
+pub record StandsFor (codec : Meaning) (parts : Parts) (h : List Event) : Type 0 where
+  pub events : parts.events ≡ length h
+  pub clock : parts.clock ≡ now h
+  pub newest : parts.newest ≡ (latest (snapshots parts.settings codec h)).newest
+  pub packets : parts.packets ≡ (latest (snapshots parts.settings codec h)).packets
+  pub last_pulled : parts.last_pulled ≡ last_pulled (latest (snapshots parts.settings codec h)).pulled
+
+-- no packet lies beyond the last frame pulled
+abbrev pub NoneBeyond : Parts → Type 0
+NoneBeyond parts = All (λ entry. IsSomeAnd parts.last_pulled (λ last. entry.0 ≤ last)) parts.packets
+
+-- a payload type is 64 to 95, which RTCP takes on a shared port (RFC 5761 4), or has more than seven bits
+abbrev pub IsBadType : ℕ → Type 0
+IsBadType type = ((64 ≤ type) × (type ≤ 95)) ⊎ (127 < type)

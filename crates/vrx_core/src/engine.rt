@@ -1,0 +1,205 @@
+//! The engine: two events and what each answers.
+
+ghost use Rattle.std.specs.Prelude.{◌≡◌, ◌+◌, ◌<◌, ◌≤◌, ◌↔◌, max, List, [], ◌∷◌, None, OnOk, OnErr, IfOk, IsOk, IsErr, IsErrOf, IsTrue};
+ghost use Rattle.vrx_core.specs.Descriptor.{vp8};
+ghost use Rattle.vrx_core.specs.Machine.{Reply, ToDatagram, ToPull, what_of, pulled_of, reply};
+ghost use Rattle.vrx_core.specs.Verdict.{verdict as verdict_of};
+ghost use Rattle.vrx_core.specs.StandsFor.{StandsFor, NoneBeyond, IsBadType};
+ghost use Rattle.vrx_core.specs.Window.{newest_with as newest_of};
+ghost use Rattle.vrx_core.specs.Step.{IsSound, IsHandled, counted, with_pull, next_whole};
+ghost use Rattle.vrx_core.specs.declared.event.Event.{Event};
+
+use crate::held::{Held, next_frame, place};
+use crate::reply::{Frame, Handled, Pulled, What};
+use crate::settings::{NewFault, Settings};
+use crate::verdict::verdict;
+use bytes::Bytes;
+use std::alloc::Global;
+use std::marker::Model;
+use vrx_num::{Extender, NoMemory};
+
+/// An engine takes at most so many events.
+pub const MOST_EVENTS: u32 = 1_048_576;
+
+/// How many packets a new engine has room for: a few from the start. The room grows to the window, as packets come.
+const ROOM: usize = 64;
+
+/// The receiver of one stream.
+///
+/// It keeps no history. Contracts see its parts, and say for every history for which it stands that it stands for
+/// the history with the event, and that the reply is the machine's.
+#[derive(Drop)]
+pub struct Engine {
+    alloc: Global,
+    settings: Settings,
+    events: u32,
+    clock: u64,
+    extender: Extender,
+    held: Vec<Held>,
+    last_pulled: Option<u64>,
+}
+
+impl Model for Engine {
+    ghost use Rattle.vrx_core.specs.StandsFor.{Parts};
+    ghost use Rattle.vrx_core.specs.Step.{parts_of, IsSound};
+    ghost use Rattle.vrx_core.specs.Held.{entries};
+
+    ghost Value = { Parts };
+
+    ghost view = { λ a. parts_of a.settings a.events a.clock a.extender (entries a.held.items) a.last_pulled };
+
+    ghost invariant = { λ a. IsSound (parts_of a.settings a.events a.clock a.extender (entries a.held.items) a.last_pulled) };
+}
+
+/// Whether a payload type can't be the media type.
+fn is_bad_type(payload_type: u8) -> bool
+    ensures { IsTrue result ↔ IsBadType payload_type }
+{
+    (64..=95).contains(&payload_type) || payload_type > 127
+}
+
+/// The newest number once a number is taken.
+fn newest_with(newest: Option<u64>, number: u64) -> u64
+    ensures { result ≡ newest_of newest number }
+{
+    match newest {
+        None => number,
+        Some(newest) => newest.max(number),
+    }
+}
+
+impl Engine {
+    /// An engine before its first event.
+    ///
+    /// The faults are tested in their order, and memory is taken after them.
+    pub fn new(alloc: Global, settings: Settings) -> Result<Engine, NewFault>
+        ensures bad_type { IsErrOf result NewFault.BadType ↔ IsBadType settings.media_type }
+        ensures same_ssrc { IsErrOf result NewFault.SameSsrc ↔
+            (¬ IsBadType settings.media_type × (settings.media_ssrc ≡ settings.from_ssrc)) }
+        ensures stands { IfOk result (λ engine. StandsFor vp8 engine []) }
+        ensures settings { IfOk result (λ engine. engine.settings ≡ settings) }
+    {
+        if is_bad_type(settings.media_type) {
+            return Err(NewFault::BadType);
+        }
+        if settings.media_ssrc == settings.from_ssrc {
+            return Err(NewFault::SameSsrc);
+        }
+        let Ok(held) = Vec::with_capacity(alloc, ROOM) else {
+            return Err(NewFault::NoMemory);
+        };
+        Ok(Engine {
+            alloc,
+            settings,
+            events: 0,
+            clock: 0,
+            extender: Extender::new(),
+            held,
+            last_pulled: None,
+        })
+    }
+
+    /// How many events the engine took.
+    pub fn events(&self) -> u32
+        ensures value { result ≡ self.now.events }
+        ensures few { result ≤ 1048576 }
+    {
+        self.events
+    }
+
+    /// The greatest moment of the events so far, in milliseconds: 0 before the first.
+    pub fn now(&self) -> u64
+        ensures { result ≡ self.now.clock }
+    {
+        self.clock
+    }
+
+    /// Takes a datagram that came at this moment, in milliseconds.
+    ///
+    /// `NoMemory` changes nothing, the clock and the count included. A refused datagram is never answered so, and moves
+    /// the clock and the count alone. What became of it is the verdict over the newest number and the packets.
+    pub fn datagram(&mut self, moment: u64, bytes: &[u8]) -> Result<Handled, NoMemory>
+        requires { self.old.events < 1048576 }
+        ensures stands { (h : List Event) → StandsFor vp8 self.old h →
+            OnOk result (StandsFor vp8 self.new (Event.Datagram moment bytes.now ∷ h)) }
+        ensures reply { (h : List Event) → StandsFor vp8 self.old h →
+            IfOk result (λ handled. ToDatagram handled ≡ reply self.old.settings vp8 h (Event.Datagram moment bytes.now)) }
+        ensures what { IfOk result (λ handled.
+            handled.what ≡ what_of (verdict_of self.old.settings self.old.newest self.old.packets bytes.now)) }
+        ensures counts { OnOk result ((self.new.events ≡ self.old.events + 1) ×
+            (self.new.clock ≡ max self.old.clock moment)) }
+        ensures settings { self.new.settings ≡ self.old.settings }
+        ensures no_memory { OnErr result (self.new ≡ self.old) }
+        ensures refused { IsErr (verdict_of self.old.settings self.old.newest self.old.packets bytes.now) →
+            IsOk result × (self.new ≡ counted self.old moment) }
+    {
+        let what = self.handle(moment, bytes)?;
+        Ok(Handled { what })
+    }
+
+    /// Gives the decoder the next frame, at this moment in milliseconds.
+    ///
+    /// `NoMemory` changes nothing, the clock and the count included. Where no frame is ready it isn't answered:
+    /// `NotReady` comes exactly where no packet lies beyond the last frame pulled, for now that each packet is a whole
+    /// keyframe.
+    pub fn pull(&mut self, moment: u64) -> Result<Pulled, NoMemory>
+        requires { self.old.events < 1048576 }
+        ensures stands { (h : List Event) → StandsFor vp8 self.old h →
+            OnOk result (StandsFor vp8 self.new (Event.Pull moment ∷ h)) }
+        ensures reply { (h : List Event) → StandsFor vp8 self.old h →
+            IfOk result (λ pulled. ToPull pulled ≡ reply self.old.settings vp8 h (Event.Pull moment)) }
+        ensures not_ready_exactly { IfOk result (λ pulled. (pulled ≡ Pulled.NotReady) ↔ NoneBeyond self.old) }
+        ensures counts { OnOk result ((self.new.events ≡ self.old.events + 1) ×
+            (self.new.clock ≡ max self.old.clock moment)) }
+        ensures settings { self.new.settings ≡ self.old.settings }
+        ensures no_memory { OnErr result (self.new ≡ self.old) }
+        ensures not_ready { (h : List Event) → StandsFor vp8 self.old h →
+            reply self.old.settings vp8 h (Event.Pull moment) ≡ ToPull Pulled.NotReady → IsOk result }
+    {
+        match self.hand_out(moment)? {
+            Some(frame) => Ok(Pulled::Frame(frame)),
+            None => Ok(Pulled::NotReady),
+        }
+    }
+
+    /// Handles a datagram. Memory is taken first: an `Err` changes nothing, and a refused datagram takes none.
+    fn handle(&mut self, moment: u64, octets: &[u8]) -> Result<What, NoMemory>
+        requires { self.old.events < 1048576 }
+        ensures value { IfOk result (λ what. IsHandled self.old moment octets.now what self.new) }
+        ensures err { OnErr result (self.new ≡ self.old) }
+        ensures refused { IsErr (verdict_of self.old.settings self.old.newest self.old.packets octets.now) →
+            IsOk result }
+    {
+        let what = match verdict(&self.settings, &self.extender, &self.held, octets) {
+            Err(reason) => What::Dropped(reason),
+            Ok(number) => {
+                let text = Bytes::copy_from_slice(self.alloc, octets)?;
+                let newest = newest_with(self.extender.newest(), number);
+                place(&mut self.held, newest, Held { number, text })?;
+                self.extender.accept(number);
+                What::Media(number)
+            }
+        };
+        self.events += 1;
+        self.clock = self.clock.max(moment);
+        Ok(what)
+    }
+
+    /// Gives the next frame. Memory is taken first: an `Err` changes nothing, and where no frame is ready none is taken.
+    fn hand_out(&mut self, moment: u64) -> Result<Option<Frame>, NoMemory>
+        requires { self.old.events < 1048576 }
+        ensures frame { IfOk result (λ frame. frame ≡ next_whole self.old.last_pulled self.old.packets) }
+        ensures after { IfOk result (λ frame. self.new ≡ with_pull self.old moment frame) }
+        ensures err { OnErr result (self.new ≡ self.old) }
+        ensures none { next_whole self.old.last_pulled self.old.packets ≡ None → IsOk result }
+        ensures sound { IsSound self.old }
+    {
+        let frame = next_frame(self.alloc, &self.settings, &self.held, self.last_pulled)?;
+        if let Some(frame) = &frame {
+            self.last_pulled = Some(frame.last);
+        }
+        self.events += 1;
+        self.clock = self.clock.max(moment);
+        Ok(frame)
+    }
+}

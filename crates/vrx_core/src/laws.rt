@@ -1,0 +1,23 @@
+//! What holds of every call. A law runs nothing: its clause is what it is for.
+
+ghost use Rattle.vrx_core.specs.HonestCall.{HonestCallHolds};
+ghost use Rattle.vrx_core.specs.HonestTaken.{HonestTakenHolds};
+
+/// The honest call. An honest sender sends whole keyframes of one packet each. An honest network brings what was
+/// sent, with loss, repeats and in any order, each packet at most 32,768 places away from the greatest one taken so
+/// far, and beside it only octets of a form that the receiver doesn't take. Then the frames pulled are frames that were
+/// sent, byte for byte, in the order in which they were sent, each at most once, and the first is a keyframe. Each
+/// pull is answered by the least frame that is ready, and by `NotReady` exactly where none is. It holds for all
+/// settings and every codec's meaning, of forms that the receiver takes, which so far name VP8's bits.
+pub fn honest_call()
+    ensures { HonestCallHolds }
+{}
+
+/// What a receiver takes and keeps in an honest call, in the sender's terms alone. A datagram of the sender is taken
+/// exactly where it is the first, or its packet wasn't taken before, lies fewer than 2,048 places below the greatest
+/// packet taken and fewer than 32,768 above it. Where it is taken, it is answered by its packet's number. The packets
+/// available are those taken that lie fewer than 2,048 places below the greatest, each under its number and octet for
+/// octet, and nothing else is available.
+pub fn honest_taken()
+    ensures { HonestTakenHolds }
+{}

@@ -1,0 +1,52 @@
+//! What the definitions mean, beside how they are written. A law runs nothing: its clause is what it is for.
+
+ghost use Rattle.vrx_core.specs.Available.{AvailableHolds};
+ghost use Rattle.vrx_core.specs.Clock.{ClockHolds};
+ghost use Rattle.vrx_core.specs.IsRun.{RunsHolds};
+ghost use Rattle.vrx_core.specs.Passed.{NonePassedHolds, PassedStaysHolds};
+ghost use Rattle.vrx_core.specs.PulledRise.{PulledRiseHolds};
+ghost use Rattle.vrx_core.specs.Reasons.{ReasonsHolds};
+
+/// Each reason refuses a datagram exactly where it should, for a newest number of 32,768 or more, where there is one,
+/// and a sequence number of 16 bits.
+///
+/// `Form`: it is of a form that isn't taken. `TooFar`: it is of one that is, and its sequence number lies just half of
+/// the number space away from the newest number. `TooOld`: its extended number lies 2,048 or more below the newest.
+/// `Repeat`: neither, and its number is available. Else it is taken.
+pub fn reasons_mean()
+    ensures { ReasonsHolds }
+{}
+
+/// A run is a frame's packets among the available ones: its numbers, from the first to the last, are each available
+/// media; all its packets have one timestamp; the first is a start and no other is; the last has the marker and no other
+/// has; and its parts join to its bytes. Its layers are those of its first part. There are no other runs.
+pub fn runs_are()
+    ensures { RunsHolds }
+{}
+
+/// The frames pulled rise: each begins beyond the last number of the frame pulled before it.
+pub fn pulled_rise()
+    ensures { PulledRiseHolds }
+{}
+
+/// Each available packet came in a datagram that was taken under its number, and is that datagram's octets as media. Its
+/// number lies in the window after the newest number.
+pub fn available_are()
+    ensures { AvailableHolds }
+{}
+
+/// A number that is passed stays passed.
+pub fn passed_stays()
+    ensures { PassedStaysHolds }
+{}
+
+/// No number is passed before the first frame is pulled.
+pub fn none_passed()
+    ensures { NonePassedHolds }
+{}
+
+/// The machine's clock is the greatest moment of the events so far, and 0 before the first. Moments may go back, it
+/// doesn't.
+pub fn clock_is()
+    ensures { ClockHolds }
+{}
