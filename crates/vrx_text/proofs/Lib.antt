@@ -1,0 +1,12 @@
+pub mod PlaceLemmas
+pub mod LinesLemmas
+pub mod AheadLemmas
+pub mod HeldLemmas
+pub mod FoundLemmas
+pub mod ReaderLemmas
+pub mod CallerLemmas
+pub mod OnLiterals
+pub mod Rows
+pub mod NumberLemmas
+pub mod SsrcLemmas
+pub mod GrammarLemmas
