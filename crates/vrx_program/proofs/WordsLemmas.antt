@@ -1,0 +1,19 @@
+-- A list of one word.
+use Rattle.std.proofs.Common.{◌≡◌, ℕ, ◌<◌, ◌≤◌, true, List, [], ◌∷◌, length, get_or, sym, ◌∙◌, ap, arith}
+use Rattle.std.specs.Prelude.{nat_eq}
+use Rattle.std.proofs.lemmas.Cmp.{nat_list_eq_equiv}
+use lib.Pointwise.{pointwise}
+
+-- a list of one item is that item
+pub single : {A : Type 0} (xs : List A) (x : A) → 1 ≤ length xs → length xs < 2 → x ≡ get_or xs 0 x → xs ≡ x ∷ []
+single [] x least most is = absurd (omega arith)
+single (y ∷ []) x least most is = ap (λ z. z ∷ []) (sym is)
+single (y ∷ z ∷ zs) x least most is = absurd (omega arith)
+
+-- lists of one item are equal where the items are
+pub head_same : (x y : List ℕ) → x ∷ [] ≡ y ∷ [] → x ≡ y
+head_same x y same = cc
+
+-- equal texts are alike octet by octet
+pub texts_alike : (x y : List ℕ) → x ≡ y → pointwise nat_eq x y ≡ true
+texts_alike x y same = ap (λ z. pointwise nat_eq z y) same ∙ nat_list_eq_equiv.refl y

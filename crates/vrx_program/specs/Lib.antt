@@ -1,0 +1,5 @@
+pub mod Words
+pub mod Replay
+pub mod Ends
+pub mod HonestLines
+pub mod Number

@@ -1,0 +1,108 @@
+//! Replays a captured call: it reads a capture, and writes what the receiver replies to each event.
+//!
+//! `run` is the program over any source and sink, and carries its theorem; `main` runs it over the standard streams.
+#![tactic(auto)]
+
+ghost use Rattle.std.specs.Prelude.{◌≡◌, ◌≤◌, ◌↔◌, ◌⊎◌, List, map, IfSome, is_some};
+ghost use Rattle.std.specs.String.{string_bytes};
+ghost use Rattle.vrx_io.specs.Faults.{Rose};
+ghost use Rattle.vrx_core.specs.Sender.{Sender};
+ghost use Rattle.vrx_core.specs.HonestNetwork.{Origin};
+ghost use Rattle.vrx_program.specs.Words.{IsReplay};
+ghost use Rattle.vrx_program.specs.Replay.{replayed};
+ghost use Rattle.vrx_program.specs.Ends.{Ends};
+ghost use Rattle.vrx_program.specs.HonestLines.{IsHonestCapture, HonestLines};
+
+mod replay;
+mod status;
+#[cfg(test)]
+mod tests;
+
+use crate::replay::{is_replay, replay};
+pub use crate::status::Status;
+use std::alloc::Global;
+use std::io::ErrorKind;
+use std::process::ExitCode;
+use std::{env, io};
+use vrx_core::honest_call;
+use vrx_io::{Sink, Source, StdSink, StdSource};
+
+/// Runs the program: `replay` reads a capture from the source, and writes its transcript to the sink.
+///
+/// What the clauses say of content, they say where the source tells its bytes. What the sink took is what it took in
+/// this call.
+pub fn run<S: Source, K: Sink>(
+    alloc: Global,
+    words: &[String],
+    source: &mut S,
+    sink: &mut K,
+) -> Status
+    // The words: any others than the one word `replay` are bad usage, and then nothing is read or written.
+    ensures usage { (result ≡ Status.BadUsage) ↔ (¬ IsReplay (map string_bytes words.now)) }
+    ensures untouched { result ≡ Status.BadUsage →
+        (source.new ≡ source.old) × (sink.new ≡ sink.old) }
+
+    // The status and the text are the machine's: all of it on Done and BadCapture, a part from its front else.
+    ensures outcome { IsReplay (map string_bytes words.now) → IfSome (S.left source.old) (λ capture.
+        Ends result (replayed capture) (K.taken sink.old) (K.taken sink.new) (S.left source.new)) }
+
+    // A fault comes only where the object that was handed in counted one in this call.
+    ensures read_fault { result ≡ Status.ReadFault →
+        Rose (S.faults source.old) (S.faults source.new) }
+    ensures write_fault { result ≡ Status.WriteFault →
+        Rose (K.faults sink.old) (K.faults sink.new) }
+    ensures tells { is_some (S.left source.new) ≡ is_some (S.left source.old) }
+    ensures read_later { S.faults source.old ≤ S.faults source.new }
+    ensures write_later { K.faults sink.old ≤ K.faults sink.new }
+
+    // With the right words, no bad line and no fault, the run is Done, unless memory runs out.
+    ensures complete { IsReplay (map string_bytes words.now) →
+        ¬ Rose (S.faults source.old) (S.faults source.new) → ¬ Rose (K.faults sink.old) (K.faults sink.new) →
+        IfSome (S.left source.old) (λ capture. (replayed capture).status ≡ Status.Done →
+        (result ≡ Status.Done) ⊎ (result ≡ Status.NoMemory)) }
+
+    // The honest call: where an honest network took the datagrams of the capture from one honest sender, the frames
+    // pulled are that sender's.
+    ensures honest { IsReplay (map string_bytes words.now) → IfSome (S.left source.old) (λ capture.
+        (sender : Sender) (origins : List Origin) → IsHonestCapture capture sender origins →
+        HonestLines capture sender origins result (K.taken sink.old) (K.taken sink.new)) }
+{
+    honest_call();
+    if is_replay(words) {
+        replay(alloc, source, sink)
+    } else {
+        Status::BadUsage
+    }
+}
+
+/// The words after the program's name.
+fn words_of(rt: &HostRuntime) -> io::Result<Vec<String>> {
+    let mut words = Vec::new(rt.alloc());
+    for word in env::args(rt)?.skip(1) {
+        words.push(word)?;
+    }
+    Ok(words)
+}
+
+/// Tells a person why a run wasn't done, on standard error.
+fn tell(rt: &HostRuntime, status: Status) {
+    if let Some(cause) = status.cause() {
+        let _ = eprintln!(rt; "{cause}");
+    }
+}
+
+/// Runs the program over the standard streams, and ends with the status's number.
+fn main(rt: HostRuntime) -> ExitCode {
+    let status = match words_of(&rt) {
+        Ok(words) => {
+            let mut source = StdSource::new(rt.stdin());
+            let mut sink = StdSink::new(rt.stdout());
+            run(rt.alloc(), words.as_slice(), &mut source, &mut sink)
+        }
+        Err(error) if error.kind() == ErrorKind::OutOfMemory => Status::NoMemory,
+        // A word that is no text is none that the program knows.
+        Err(_) => Status::BadUsage,
+    };
+    tell(&rt, status);
+    ExitCode::from(status.number())
+}
