@@ -1,0 +1,43 @@
+#!/usr/bin/env bash
+# Runs each example: the capture through replay, compared with the transcript, the status (0 where none is named) and,
+# where the example has them, the frames that the encoder made (timestamp, kind, size, SHA-256).
+set -u
+cd "$(dirname "$0")/.." || exit 1
+passed=0 failed=0
+text=$(mktemp) || exit 1
+trap 'rm -f "$text"' EXIT
+
+# the frames of a transcript, as an example's file frames has them
+frames_of() {
+  python3 -c '
+import hashlib, sys
+for line in open(sys.argv[1]):
+    words = line.split()
+    if len(words) == 7 and words[1] == "frame":
+        octets = bytes.fromhex(words[6])
+        print(words[5], words[4], len(octets), hashlib.sha256(octets).hexdigest())
+' "$1"
+}
+
+for example in examples/*/; do
+  name=$(basename "$example")
+  wanted=0
+  [ ! -f "$example/status" ] || wanted=$(cat "$example/status")
+  ./vrx replay < "$example/capture" > "$text" 2> /dev/null
+  status=$?
+  if [ "$status" != "$wanted" ]; then
+    echo "example $name: status $status, not $wanted"
+    failed=$((failed + 1))
+  elif ! cmp -s "$text" "$example/transcript"; then
+    echo "example $name: another transcript"
+    diff "$example/transcript" "$text" | head -n 10 | cut -c1-200
+    failed=$((failed + 1))
+  elif [ -f "$example/frames" ] && [ "$(frames_of "$text")" != "$(cat "$example/frames")" ]; then
+    echo "example $name: other frames"
+    failed=$((failed + 1))
+  else
+    passed=$((passed + 1))
+  fi
+done
+echo "examples: $passed passed, $failed failed"
+[ "$failed" = 0 ]
