@@ -1,6 +1,7 @@
 #!/usr/bin/env bash
 # Runs each example: the capture through replay, compared with the transcript, the status (0 where none is named) and,
-# where the example has them, the frames that the encoder made (timestamp, kind, size, SHA-256).
+# where the example has them, the frames that the encoder made (timestamp, kind, size, SHA-256). Then each end that
+# can be brought about: its status, and its line on standard error.
 set -u
 cd "$(dirname "$0")/.." || exit 1
 passed=0 failed=0
@@ -39,5 +40,29 @@ for example in examples/*/; do
     passed=$((passed + 1))
   fi
 done
+
+# told STATUS LINE INPUT OUTPUT WORD..: with these words the program ends so, and standard error has this line
+told() {
+  local wanted=$1 line=$2 input=$3 output=$4 status
+  shift 4
+  ./vrx "$@" < "$input" > "$output" 2> "$text"
+  status=$?
+  if [ "$status" = "$wanted" ] && [ "$(cat "$text")" = "$line" ]; then
+    passed=$((passed + 1))
+  else
+    echo "words '$*': status $status and '$(cat "$text")', not $wanted and '$line'"
+    failed=$((failed + 1))
+  fi
+}
+
+usage="usage: vrx replay < CAPTURE > TRANSCRIPT"
+capture=examples/one_keyframe/capture
+told 0 "" $capture /dev/null replay
+told 1 "$usage" $capture /dev/null
+told 1 "$usage" $capture /dev/null replay twice
+told 1 "$usage" $capture /dev/null $'replay\xff'
+told 2 "vrx: a line of the capture is bad, or its settings are refused" examples/bad_line/capture /dev/null replay
+told 3 "vrx: a read failed" examples /dev/null replay
+told 4 "vrx: a write failed" $capture /dev/full replay
 echo "examples: $passed passed, $failed failed"
 [ "$failed" = 0 ]

@@ -1,7 +1,8 @@
 //! How a run ended.
 
 ghost use Rattle.std.specs.Prelude.{◌≡◌};
-ghost use Rattle.vrx_program.specs.Number.{number_of};
+ghost use Rattle.std.specs.Option.{option_map};
+ghost use Rattle.vrx_program.specs.Number.{number_of, cause_of};
 
 /// How a run ended.
 #[derive(Clone, Copy, Debug, PartialEq, Eq)]
@@ -36,7 +37,9 @@ impl Status {
     }
 
     /// What to tell a person, where the run wasn't done.
-    pub fn cause(self) -> Option<&'static str> {
+    pub fn cause(self) -> Option<&'static str>
+        ensures { option_map (λ text. text.now) result ≡ cause_of self }
+    {
         match self {
             Status::Done => None,
             Status::BadUsage => Some("usage: vrx replay < CAPTURE > TRANSCRIPT"),
