@@ -14,7 +14,7 @@ use Rattle.vrx_core.specs.declared.event.Event.TheVariants.{Datagram, Pull}
 use Rattle.vrx_core.specs.declared.reply.Reason.{Reason}
 use Rattle.vrx_core.specs.declared.reply.Frame.{Frame}
 use Rattle.vrx_core.specs.declared.reply.What.TheVariants as what_became
-use Rattle.vrx_core.proofs.KeptLemmas.{same_key}
+use Rattle.vrx_core.proofs.KeyLemmas.{same_key}
 use Rattle.vrx_core.proofs.KeepsLemmas.{find-placed, open-newest}
 use Rattle.vrx_core.proofs.TakenLemmas.{verdict_taken, verdict_open}
 use Rattle.vrx_core.proofs.StandsLemmas.{reply-is}

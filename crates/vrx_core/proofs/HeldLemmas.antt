@@ -1,6 +1,8 @@
 -- The list of held packets, one by one.
-use Rattle.std.proofs.Common.{◌≡◌, ◌≢◌, ℕ, zero, suc, ◌+◌, ◌<◌, ◌≤◌, Bool, true, false, cond, List, [], ◌∷◌, ◌++◌, length, get_or, take, drop, insert, refl, sym, ◌∙◌, ap, inl, inr, arith, add-one, drop-cons, append_assoc}
-use Rattle.std.specs.Prelude.{Some, is_some, eqb, filter}
+use Rattle.std.proofs.Common.{◌≡◌, ◌≢◌, ℕ, zero, suc, ◌+◌, ◌<◌, ◌≤◌, Bool, true, false, cond, List, [], ◌∷◌, ◌++◌, length, get_or, take, drop, insert, ◌-◌, refl, sym, ◌∙◌, ap, inl, inr, arith, add-one, drop-cons, append_assoc}
+use Rattle.std.specs.Prelude.{Option, Some, None, is_some, eqb, filter}
+use Rattle.std.specs.List.{flat_map}
+use Rattle.std.specs.Option.{option_map, option_or}
 use Rattle.std.specs.Ordering.{nat_cmp, eq_by_cmp}
 use Rattle.std.specs.declared.cmp.Ordering.TheVariants.{Less, Equal, Greater}
 use Rattle.std.specs.FinMap.Entries.{by_order, put, where_key, is_sorted}
@@ -9,6 +11,11 @@ use Rattle.std.proofs.lemmas.List.{take_more, drop-map, take-map, map-append, le
 use Rattle.vrx_core.specs.declared.held.Held.{Held}
 use Rattle.vrx_core.specs.Held.{entry_of, entries}
 use Rattle.vrx_core.specs.Window.{Content, Media, Packets, at, is_available, in_window, placed}
+use Rattle.vrx_core.specs.declared.settings.Settings.{Settings}
+use Rattle.vrx_core.specs.declared.reply.Frame.{Frame}
+use Rattle.vrx_rtp.specs.Packet.{Packet}
+use Rattle.vrx_core.specs.Step.{AreTaken, packet_in, standing_length, next_run, body_in, last_of, joined}
+use Rattle.vrx_core.specs.Run.{◌>>=◌}
 use Rattle.vrx_core.proofs.WholeLemmas.{Above, Rising, rising_from, at_here, at_later}
 
 -- the packet at an index, and those behind it
@@ -66,7 +73,7 @@ above-where : (k : ℕ) (p : ℕ → Bool) (es : Packets) → Above k es → Abo
 above-where k p [] above = tt
 above-where k p (e ∷ es) above = elim (p e.0) as (λ b. Above k (cond b (e ∷ where_key nat_cmp p es) (where_key nat_cmp p es))) [ true ↦ (above.0, above-where k p es above.1) | false ↦ above-where k p es above.1 ]
 
-above-less : (j k : ℕ) (es : Packets) → j < k → Above k es → Above j es
+pub above-less : (j k : ℕ) (es : Packets) → j < k → Above k es → Above j es
 above-less j k [] less above = tt
 above-less j k (e ∷ es) less above = (omega (arith, less, above.0), above-less j k es less above.1)
 
@@ -112,3 +119,48 @@ pub placed-insert : (newest : ℕ) (held inserted kept : List Held) (i : ℕ) (p
     → entries kept ≡ placed newest p.number (Media p.text) (entries held)
 placed-insert newest held inserted kept i p sorted inside is here filtered = ap entries filtered ∙ entries-filter (in_window newest) inserted ∙ ap (λ ps. where_key nat_cmp (in_window newest) (entries ps)) is
     ∙ ap (where_key nat_cmp (in_window newest)) (entries-insert held i p ∙ sym here) ∙ keep-put (in_window newest) p.number (Media p.text) (entries held) (rising_from (entries held) sorted) inside
+
+-- the first of some taken packets were taken
+pub taken-take : (settings : Settings) (n : ℕ) (held : List Held) → AreTaken settings (entries held) → AreTaken settings (entries (take n held))
+taken-take settings zero held taken = tt
+taken-take settings (suc n) [] taken = tt
+taken-take settings (suc n) (p ∷ held) taken = (taken.0, taken-take settings n held taken.1)
+
+-- taken packets from one place on, without the first of them, were taken
+taken-later : (settings : Settings) (i : ℕ) (held : List Held) → AreTaken settings (entries (drop i held)) → AreTaken settings (entries (drop (suc i) held))
+taken-later settings zero [] taken = tt
+taken-later settings zero (p ∷ held) taken = taken.1
+taken-later settings (suc i) [] taken = tt
+taken-later settings (suc i) (p ∷ held) taken = taken-later settings i held taken
+
+-- the same by the number of the next place
+pub taken-next : (settings : Settings) (i : ℕ) (held : List Held) → AreTaken settings (entries (drop i held)) → AreTaken settings (entries (drop (i + 1) held))
+taken-next settings i held taken = rw add-one (taken-later settings i held taken)
+
+-- where no run that stands begins at a place, the next run is that of the packets behind it
+next-later : (pulled : Option ℕ) (i : ℕ) (held : List Held) → standing_length pulled (entries (drop i held)) ≡ None → next_run pulled (entries (drop (suc i) held)) ≡ next_run pulled (entries (drop i held))
+next-later pulled zero [] none = refl
+next-later pulled zero (p ∷ held) none = sym (ap (λ o. option_or (option_map (λ n. take n (entries (p ∷ held))) o) (next_run pulled (entries held))) none)
+next-later pulled (suc i) [] none = refl
+next-later pulled (suc i) (p ∷ held) none = next-later pulled i held none
+
+-- the same by the number of the next place
+pub next-behind : (pulled : Option ℕ) (i : ℕ) (held : List Held) → standing_length pulled (entries (drop i held)) ≡ None → next_run pulled (entries (drop (i + 1) held)) ≡ next_run pulled (entries (drop i held))
+next-behind pulled i held none = rw add-one (next-later pulled i held none)
+
+-- the number of the last packet
+last-held : (p : Held) (held : List Held) (d : Held) → last_of (entry_of p) (entries held) ≡ (get_or (p ∷ held) (length held) d).number
+last-held p [] d = refl
+last-held p (q ∷ held) d = last-held q held d
+
+-- what the packets of a run join to, from its first and last packet and its octets
+pub joined-held : (run : List Held) (a b d : Held) (packet : Packet) (bytes : List ℕ) → 0 < length run → packet_in (entry_of (get_or run 0 a)) ≡ Some packet → bytes ≡ flat_map body_in (entries run)
+    → joined (entries run) ≡ Some (record { first = (get_or run 0 b).number; last = (get_or run (length run - 1) d).number; ts = packet.ts; key = true; bytes = bytes })
+joined-held [] a b d packet bytes some reads is = absurd (omega arith)
+joined-held (p ∷ held) a b d packet bytes some reads is =
+    let size : length held ≡ length (p ∷ held) - 1 = omega arith in
+    ap (λ o. o >>= λ q. Some (made (last_of (entry_of p) (entries held)) q.ts (flat_map body_in (entries (p ∷ held))))) reads
+    ∙ ap (λ n. Some (made n packet.ts (flat_map body_in (entries (p ∷ held))))) (last-held p held d ∙ ap (λ k. (get_or (p ∷ held) k d).number) size)
+    ∙ ap (λ bs. Some (made (get_or (p ∷ held) (length (p ∷ held) - 1) d).number packet.ts bs)) (sym is) where
+      made : (last ts : ℕ) (bytes : List ℕ) → Frame
+      made last ts bs = record { first = p.number; last = last; ts = ts; key = true; bytes = bs }

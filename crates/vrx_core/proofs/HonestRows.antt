@@ -1,10 +1,10 @@
 -- An honest sender and an honest network, worked by hand: the premises of the law can be met.
-use Rattle.std.proofs.Common.{◌≢◌, ℕ, zero, suc, ◌+◌, true, List, [], ◌∷◌, None, IfSome, IsSomeAnd, slice_get, refl, arith}
+use Rattle.std.proofs.Common.{◌≢◌, ◌≤◌, ◌<◌, ℕ, zero, suc, ◌+◌, true, false, List, [], ◌∷◌, length, None, IfSome, slice_get, refl, arith}
 use Rattle.vrx_core.specs.Descriptor.{vp8}
 use Rattle.vrx_core.specs.Machine.{snapshots}
 use Rattle.vrx_core.specs.Sender.{SentFrame, Media, Sender}
-use Rattle.vrx_core.specs.Part.{Yes}
-use Rattle.vrx_core.specs.HonestSender.{Carries, HonestSender, TravelsWhole}
+use Rattle.vrx_core.specs.Part.{Yes, No}
+use Rattle.vrx_core.specs.HonestSender.{Carried, IsPart, Travels, HonestSender}
 use Rattle.vrx_core.specs.HonestNetwork.{Origin, FromSender, Elsewhere, HonestNetwork, taken}
 use Rattle.vrx_core.specs.declared.settings.Settings.{Settings}
 use Rattle.vrx_core.specs.declared.event.Event.{Event}
@@ -13,70 +13,137 @@ use Rattle.vrx_core.specs.declared.event.Event.TheVariants.{Datagram, Pull}
 abbrev settings : Settings
 settings = record { media_ssrc = 10; media_type = 96; from_ssrc = 11 }
 
--- two keyframes of the sequence numbers 65535 and 0
+-- a keyframe of two packets, of the sequence numbers 65535 and 0, and a keyframe of one packet
 abbrev first_text : List ℕ
-first_text = 128 ∷ 224 ∷ 255 ∷ 255 ∷ 0 ∷ 0 ∷ 0 ∷ 0 ∷ 0 ∷ 0 ∷ 0 ∷ 10 ∷ 16 ∷ 0 ∷ 170 ∷ []
+first_text = 128 ∷ 96 ∷ 255 ∷ 255 ∷ 0 ∷ 0 ∷ 0 ∷ 0 ∷ 0 ∷ 0 ∷ 0 ∷ 10 ∷ 16 ∷ 0 ∷ 170 ∷ []
 
 abbrev second_text : List ℕ
-second_text = 128 ∷ 224 ∷ 0 ∷ 0 ∷ 0 ∷ 0 ∷ 0 ∷ 9 ∷ 0 ∷ 0 ∷ 0 ∷ 10 ∷ 16 ∷ 0 ∷ 187 ∷ []
+second_text = 128 ∷ 224 ∷ 0 ∷ 0 ∷ 0 ∷ 0 ∷ 0 ∷ 0 ∷ 0 ∷ 0 ∷ 0 ∷ 10 ∷ 0 ∷ 187 ∷ []
+
+abbrev third_text : List ℕ
+third_text = 128 ∷ 224 ∷ 0 ∷ 1 ∷ 0 ∷ 0 ∷ 0 ∷ 9 ∷ 0 ∷ 0 ∷ 0 ∷ 10 ∷ 16 ∷ 0 ∷ 204 ∷ []
 
 abbrev first_frame : SentFrame
-first_frame = record { bytes = 0 ∷ 170 ∷ []; key = true; ts = 0 }
+first_frame = record { bytes = 0 ∷ 170 ∷ 187 ∷ []; key = true; ts = 0 }
 
 abbrev second_frame : SentFrame
-second_frame = record { bytes = 0 ∷ 187 ∷ []; key = true; ts = 9 }
+second_frame = record { bytes = 0 ∷ 204 ∷ []; key = true; ts = 9 }
 
 abbrev sender : Sender
-sender = record { first_wire = 65535; frames = first_frame ∷ second_frame ∷ []; packets = Media 0 0 first_text ∷ Media 1 0 second_text ∷ [] }
+sender = record { first_wire = 65535; frames = first_frame ∷ second_frame ∷ []; packets = Media 0 0 first_text ∷ Media 0 1 second_text ∷ Media 1 0 third_text ∷ [] }
 
--- each frame travels whole
-first_travels : TravelsWhole settings vp8 65535 first_frame first_text
-first_travels = record {
-  packet = record { marker = true; pt = 96; seq = 65535; ts = 0; ssrc = 10; payload = 16 ∷ 0 ∷ 170 ∷ [] };
+-- what the packets carry
+abbrev first_part : Carried
+first_part = record {
+  text = first_text;
+  packet = record { marker = false; pt = 96; seq = 65535; ts = 0; ssrc = 10; payload = 16 ∷ 0 ∷ 170 ∷ [] };
   part = record { start = Yes; key = true; layers = None; body = 0 ∷ 170 ∷ [] };
-  media = record { size = omega arith; reads = refl; number = refl; type = refl; source = refl; payload = λ e. cc; part_reads = refl };
-  timestamp = refl;
-  marker = refl;
-  start = refl;
-  joins = refl;
-  key = refl;
-  only_key = refl;
-  form = refl;
 }
 
-second_travels : TravelsWhole settings vp8 0 second_frame second_text
-second_travels = record {
-  packet = record { marker = true; pt = 96; seq = 0; ts = 9; ssrc = 10; payload = 16 ∷ 0 ∷ 187 ∷ [] };
-  part = record { start = Yes; key = true; layers = None; body = 0 ∷ 187 ∷ [] };
-  media = record { size = omega arith; reads = refl; number = refl; type = refl; source = refl; payload = λ e. cc; part_reads = refl };
-  timestamp = refl;
-  marker = refl;
-  start = refl;
-  joins = refl;
-  key = refl;
-  only_key = refl;
-  form = refl;
+abbrev second_part : Carried
+second_part = record {
+  text = second_text;
+  packet = record { marker = true; pt = 96; seq = 0; ts = 0; ssrc = 10; payload = 0 ∷ 187 ∷ [] };
+  part = record { start = No; key = false; layers = None; body = 187 ∷ [] };
 }
+
+abbrev third_part : Carried
+third_part = record {
+  text = third_text;
+  packet = record { marker = true; pt = 96; seq = 1; ts = 9; ssrc = 10; payload = 16 ∷ 0 ∷ 204 ∷ [] };
+  part = record { start = Yes; key = true; layers = None; body = 0 ∷ 204 ∷ [] };
+}
+
+-- each packet is a part of its frame
+first_is : IsPart settings vp8 sender 0 first_frame 2 0 0 first_part
+first_is = record {
+  sent = refl;
+  media = record { size = omega arith; reads = refl; number = refl; type = refl; source = refl; payload = λ e. cc; part_reads = refl; form = refl };
+  timestamp = refl;
+  marker = (λ e. cc, λ e. absurd (omega arith));
+  start = refl;
+}
+
+second_is : IsPart settings vp8 sender 0 first_frame 2 1 1 second_part
+second_is = record {
+  sent = refl;
+  media = record { size = omega arith; reads = refl; number = refl; type = refl; source = refl; payload = λ e. cc; part_reads = refl; form = refl };
+  timestamp = refl;
+  marker = (λ e. refl, λ e. refl);
+  start = refl;
+}
+
+third_is : IsPart settings vp8 sender 1 second_frame 1 0 2 third_part
+third_is = record {
+  sent = refl;
+  media = record { size = omega arith; reads = refl; number = refl; type = refl; source = refl; payload = λ e. cc; part_reads = refl; form = refl };
+  timestamp = refl;
+  marker = (λ e. refl, λ e. refl);
+  start = refl;
+}
+
+-- each frame travels
+first_travels : Travels settings vp8 sender 0 first_frame 0 (first_part ∷ second_part ∷ [])
+unfolding first_is second_is
+first_travels = record {
+  some = omega arith;
+  each = (first_is, (second_is, tt));
+  joins = refl;
+  key = (λ e. (first_part, (0, omega arith, refl), refl), λ e. refl);
+  only_key = refl;
+}
+
+second_travels : Travels settings vp8 sender 1 second_frame 2 (third_part ∷ [])
+unfolding third_is
+second_travels = record {
+  some = omega arith;
+  each = (third_is, tt);
+  joins = refl;
+  key = (λ e. (third_part, (0, omega arith, refl), refl), λ e. refl);
+  only_key = refl;
+}
+
+-- the places and the parts of the frames
+abbrev place : ℕ → ℕ
+place zero = 0
+place (suc f) = 2
+
+abbrev parts : ℕ → List Carried
+parts zero = first_part ∷ second_part ∷ []
+parts (suc f) = third_part ∷ []
 
 -- the sender is honest
 pub sender-honest : HonestSender settings vp8 sender
 unfolding first_travels second_travels
 sender-honest = record {
   begins = omega arith;
-  one_each = refl;
-  carries = elim [ zero ↦ (refl, refl, first_travels) | suc i ↦ later i ];
+  place = place;
+  parts = parts;
+  travels = elim [ zero ↦ first_travels | suc f ↦ travels f ];
+  in_order = order;
+  no_other = others;
   from_key = refl;
-  apart = elim [ zero ↦ λ e. omega arith | suc i ↦ last i ];
+  apart = elim [ zero ↦ λ e. omega arith | suc f ↦ last f ];
 } where
-  later : (i : ℕ) → IfSome (slice_get sender.packets (suc i)) (λ packet. IsSomeAnd (slice_get sender.frames (suc i)) (Carries settings vp8 sender (suc i) packet))
-  later zero = (refl, refl, second_travels)
-  later (suc i) = tt
+  travels : (f : ℕ) → IfSome (slice_get sender.frames (suc f)) (λ frame. Travels settings vp8 sender (suc f) frame (place (suc f)) (parts (suc f)))
+  travels zero = second_travels
+  travels (suc f) = tt
 
-  last : (i : ℕ) → IfSome (slice_get sender.frames (suc i)) (λ frame. IfSome (slice_get sender.frames (suc i + 1)) (λ after. frame.ts ≢ after.ts))
+  order : (f g : ℕ) → f < g → g < length sender.frames → place f + length (parts f) ≤ place g
+  order f zero less within = absurd (omega arith)
+  order zero (suc g) less within = omega arith
+  order (suc f) (suc g) less within = absurd (omega arith)
+
+  others : (i : ℕ) → i < length sender.packets → (f : ℕ) × (f < length sender.frames) × (place f ≤ i) × (i < place f + length (parts f))
+  others zero within = (0, omega arith, omega arith, omega arith)
+  others (suc zero) within = (0, omega arith, omega arith, omega arith)
+  others (suc (suc i)) within = (1, omega arith, omega arith, omega arith)
+
+  last : (f : ℕ) → IfSome (slice_get sender.frames (suc f)) (λ frame. IfSome (slice_get sender.frames (suc f + 1)) (λ after. frame.ts ≢ after.ts))
   last zero = tt
-  last (suc i) = tt
+  last (suc f) = tt
 
--- the later packet first, octets of a form that isn't taken, a pull, the earlier packet, a repeat, and a pull
+-- the last packet of the first frame, octets of a form that isn't taken, a pull, the first packet, a repeat, and a pull
 abbrev events : List Event
 events = Datagram 0 second_text ∷ Datagram 1 (7 ∷ []) ∷ Pull 2 ∷ Datagram 3 first_text ∷ Datagram 3 second_text ∷ Pull 4 ∷ []
 

@@ -41,10 +41,10 @@ ok_value (Err reason) h = absurd (cc)
 newest-number : (sender : Sender) (i : ℕ) (js : List ℕ) (m : ℕ) → IsNewestOf sender (i ∷ js) (Some m) → IsNumber sender (i ∷ js) (greatest (i ∷ js)) m
 newest-number sender i js m is = subst (λ (x : ℕ). IsNumber sender (i ∷ js) (greatest (i ∷ js)) x) (sym (same_Some m is.0 is.1)) is.3
 
-module _ (settings : Settings) (codec : Meaning) (sender : Sender) (s : Snapshot) (i : ℕ) (octets : List ℕ) (b : Brings settings codec sender i octets) where
+module _ (settings : Settings) (sender : Sender) (s : Snapshot) (i : ℕ) (octets : List ℕ) (b : Brings settings sender i octets) where
   -- the number of a sender's datagram
   brought-number : number_of s.newest octets ≡ extended s.newest (wire_of sender i)
-  brought-number = number_of-text s.newest octets b.travels.packet (wire_of sender i) b.travels.media.reads b.travels.media.number
+  brought-number = number_of-text s.newest octets b.packet (wire_of sender i) b.reads b.number
 
   -- what is kept after a sender's datagram that is near those taken, whatever the verdict
   brought-keeps : (js : List ℕ) (moment : ℕ) → IsNewestOf sender js s.newest → Keeps sender js s.packets → IsNear i js → (r : Result (ℕ × Content) Reason) → verdict settings s.newest s.packets octets ≡ r → Keeps sender (if is_ok r then i ∷ js else js) (after_datagram s moment r).packets
@@ -69,7 +69,7 @@ module _ (settings : Settings) (codec : Meaning) (sender : Sender) (s : Snapshot
       let n : ℕ = wire_of sender i + 65536 in
       let number : number_of s.newest octets ≡ Some n = brought-number ∙ ap (λ (o : Option ℕ). extended o (wire_of sender i)) none in
       let old : is_too_old s.newest n ≡ false = ap (λ (o : Option ℕ). is_too_old o n) none in
-      ap is_ok (verdict_take settings s.newest s.packets octets n b.travels.form number old (nothing sender s.packets n keeps))
+      ap is_ok (verdict_take settings s.newest s.packets octets n b.form number old (nothing sender s.packets n keeps))
 
   module _ (j : ℕ) (js : List ℕ) (m : ℕ) (newest : s.newest ≡ Some m) (from : 65536 ≤ m) (number : IsNumber sender (j ∷ js) (greatest (j ∷ js)) m) (keeps : Keeps sender (j ∷ js) s.packets) (near : IsNear i (j ∷ js)) where
     -- the number of a sender's datagram beside the newest
@@ -84,7 +84,7 @@ module _ (settings : Settings) (codec : Meaning) (sender : Sender) (s : Snapshot
         let less : m < e.0 + 2048 = near-number sender (j ∷ js) i (greatest (j ∷ js)) e.0 m 2048 e.1 number to_take.1 in
         let old : is_too_old s.newest e.0 ≡ false = ap (λ (o : Option ℕ). is_too_old o e.0) newest ∙ lt-leb (e.0 + 2048) m less in
         let again : is_available e.0 s.packets ≡ false = false_from_ne_true _ (λ h. to_take.2 (subst (λ (x : ℕ). Contains (j ∷ js) x) (one-place sender (j ∷ js) (keeps.from e.0 h).0 i e.0 (keeps.from e.0 h).2 e.1) (keeps.from e.0 h).1)) in
-        ap is_ok (verdict_take settings s.newest s.packets octets e.0 b.travels.form given old again)
+        ap is_ok (verdict_take settings s.newest s.packets octets e.0 b.form given old again)
 
     -- a later packet that is taken is one to take
     later-to_take : is_ok (verdict settings s.newest s.packets octets) ≡ true → IsToTake i (j ∷ js)
@@ -133,15 +133,15 @@ module _ (settings : Settings) (codec : Meaning) (sender : Sender) (h : List Eve
   there_available n (Some packet) there = ap is_some there
 
   -- a packet of an available number stands there with its content
-  available_there : (i n : ℕ) → AreKept settings codec sender (taken settings codec h origins) (latest (snapshots settings codec h)).packets → IsNumber sender (taken settings codec h origins) i n → is_available n (latest (snapshots settings codec h)).packets ≡ true
+  available_there : (i n : ℕ) → AreKept sender (taken settings codec h origins) (latest (snapshots settings codec h)).packets → IsNumber sender (taken settings codec h origins) i n → is_available n (latest (snapshots settings codec h)).packets ≡ true
       → IsSomeAnd (slice_get sender.packets i) (λ packet. at n (latest (snapshots settings codec h)).packets ≡ Some (content_of packet))
   available_there i n kept is h' =
       let packets : Packets = (latest (snapshots settings codec h)).packets in
-      let p = kept-there settings codec sender (taken settings codec h origins) n packets kept h' in
+      let p = kept-there sender (taken settings codec h origins) n packets kept h' in
       subst (λ (k : ℕ). IsSomeAnd (slice_get sender.packets k) (λ packet. at n packets ≡ Some (content_of packet))) (one-place sender (taken settings codec h origins) p.0 i n p.1 is) p.2
 
   -- the packets available are those to keep
-  kept_rightly : IsNewestOf sender (taken settings codec h origins) (latest (snapshots settings codec h)).newest → AreKept settings codec sender (taken settings codec h origins) (latest (snapshots settings codec h)).packets → Keeps sender (taken settings codec h origins) (latest (snapshots settings codec h)).packets → KeepsRightly settings codec sender h origins
+  kept_rightly : IsNewestOf sender (taken settings codec h origins) (latest (snapshots settings codec h)).newest → AreKept sender (taken settings codec h origins) (latest (snapshots settings codec h)).packets → Keeps sender (taken settings codec h origins) (latest (snapshots settings codec h)).packets → KeepsRightly settings codec sender h origins
   kept_rightly newest kept keeps = record {
     kept = λ i. (
       λ k. available_keeps sender (taken settings codec h origins) (latest (snapshots settings codec h)).packets i k.0 keeps k.1 (there_available k.0 (slice_get sender.packets i) k.2),
@@ -156,7 +156,7 @@ module _ (settings : Settings) (codec : Meaning) (sender : Sender) (h : List Eve
     unfolding snapshots taken
     keeps_step (Datagram moment octets) (FromSender i) delivery =
         let s : Snapshot = latest (snapshots settings codec h) in
-        brought-keeps settings codec sender s i octets (brings settings codec sender i octets honest delivery.0) (taken settings codec h origins) moment newest keeps delivery.1 (verdict settings s.newest s.packets octets) refl
+        brought-keeps settings sender s i octets (brings settings codec sender honest i octets delivery.0) (taken settings codec h origins) moment newest keeps delivery.1 (verdict settings s.newest s.packets octets) refl
     keeps_step (Datagram moment octets) Elsewhere delivery =
         let s : Snapshot = latest (snapshots settings codec h) in
         subst (λ (r : Result (ℕ × Content) Reason). Keeps sender (taken settings codec h origins) (after_datagram s moment r).packets) (sym (verdict_form settings s.newest s.packets octets delivery)) keeps
@@ -168,10 +168,10 @@ module _ (settings : Settings) (codec : Meaning) (sender : Sender) (h : List Eve
     unfolding reply
     takes_packet moment octets i delivery = let s : Snapshot = latest (snapshots settings codec h) in
         let js : List ℕ = taken settings codec h origins in
-        let b : Brings settings codec sender i octets = brings settings codec sender i octets honest delivery.0 in
+        let b : Brings settings sender i octets = brings settings codec sender honest i octets delivery.0 in
         record {
-          exactly = rightly-taken settings codec sender s i octets b js newest keeps delivery.1;
-          answer = λ h'. let p = brought-answer settings codec sender s i octets b js newest delivery.1 h' in (p.0, p.1, ap to p.2);
+          exactly = rightly-taken settings sender s i octets b js newest keeps delivery.1;
+          answer = λ h'. let p = brought-answer settings sender s i octets b js newest delivery.1 h' in (p.0, p.1, ap to p.2);
         } where
           to : What → Reply
           to w = ToDatagram (record { what = w })
@@ -189,12 +189,12 @@ first_keeps settings codec sender = record { from = λ n h. absurd (cc); all = �
 
 module _ (settings : Settings) (codec : Meaning) (sender : Sender) (honest : HonestSender settings codec sender) where
   -- the rest of an honest call takes and keeps rightly
-  takes_from : (events : List Event) (h : List Event) (origins later : List Origin) (bound : ℕ) → Holds settings codec sender (latest (snapshots settings codec h)) (taken settings codec h origins) bound → Keeps sender (taken settings codec h origins) (latest (snapshots settings codec h)).packets → HonestNetwork settings codec sender h origins events later → TakesRightly settings codec sender h origins events later
+  takes_from : (events : List Event) (h : List Event) (origins later : List Origin) (bound : ℕ) → Holds settings codec sender honest (latest (snapshots settings codec h)) (taken settings codec h origins) bound → Keeps sender (taken settings codec h origins) (latest (snapshots settings codec h)).packets → HonestNetwork settings codec sender h origins events later → TakesRightly settings codec sender h origins events later
   takes_from [] h origins [] bound holds keeps network = kept_rightly settings codec sender h origins holds.newest holds.kept keeps
   takes_from [] h origins (o ∷ os) bound holds keeps network = absurd network
   takes_from (e ∷ es) h origins [] bound holds keeps network = absurd network
   takes_from (e ∷ es) h origins (o ∷ os) bound holds keeps network =
-      let s : Step settings codec sender h origins bound e o = step settings codec sender h origins bound honest holds e o network.0 in (
+      let s : Step settings codec sender honest h origins bound e o = step settings codec sender honest h origins bound holds e o network.0 in (
         kept_rightly settings codec sender h origins holds.newest holds.kept keeps,
         rightly_step settings codec sender h origins honest holds.newest keeps e o network.0,
         takes_from es (e ∷ h) (o ∷ origins) os s.after s.holds (keeps_step settings codec sender h origins honest holds.newest keeps e o network.0) network.1,

@@ -9,7 +9,7 @@ use Rattle.vrx_core.specs.Verdict.{is_too_old}
 use Rattle.vrx_core.specs.Sender.{Sender}
 use Rattle.vrx_core.specs.HonestNetwork.{greatest}
 use Rattle.vrx_core.specs.Ready.{IsNumber}
-use Rattle.vrx_core.proofs.KeptLemmas.{equal_key, key_same, same_key}
+use Rattle.vrx_core.proofs.KeyLemmas.{equal_key, key_same, same_key}
 use Rattle.vrx_core.proofs.NumberLemmas.{IsNumberFrom, IsNumberFrom-oldest, IsNumber-grown, oldest}
 
 -- the first of a list is in it

@@ -22,7 +22,7 @@ use Rattle.vrx_core.proofs.RunLemmas.{option_map-some, runs-from}
 use Rattle.vrx_core.proofs.MemberLemmas.{Contains-head, Contains-tail, filter-from}
 
 -- the least of some runs is one of them
-least-from : (rs : List Run) (run : Run) → least rs ≡ Some run → Contains rs run
+pub least-from : (rs : List Run) (run : Run) → least rs ≡ Some run → Contains rs run
 least-from [] run is = absurd (none-some run is)
 least-from (r ∷ rs) run is = chosen (least rs) (λ q. least-from rs q) (same_Some (lesser r (least rs)) run is) where
   picked : (b : Bool) (q : Run) → Contains rs q → cond b q r ≡ run → Contains (r ∷ rs) run

@@ -11,7 +11,7 @@ use Rattle.vrx_core.specs.Reasons.{IsBelow, Means, ReasonsHolds}
 use Rattle.vrx_core.specs.declared.settings.Settings.{Settings}
 use Rattle.vrx_core.specs.declared.reply.Reason.{Reason}
 use Rattle.vrx_core.specs.declared.reply.Reason.TheVariants.{Form, TooFar, TooOld, Repeat}
-use Rattle.vrx_core.proofs.FormLemmas.{IsKeyPacket, key_packet}
+use Rattle.vrx_core.proofs.FormLemmas.{IsTakenPacket, taken_packet}
 
 -- the table, over any answers to its questions
 abbrev table : List ℕ → Bool → Option ℕ → (ℕ → Bool) → (ℕ → Bool) → Result (ℕ × Content) Reason
@@ -107,7 +107,7 @@ module _ (settings : Settings) (newest : Option ℕ) (packets : Packets) (octets
   -- it is what the verdict means
   means-from : (r : Result (ℕ × Content) Reason) → SaysHere r → Means settings newest packets octets r
   means-from (Err Form) s = s
-  means-from (Err TooFar) s = let k : IsKeyPacket settings octets = key_packet settings octets s.0 in (s.0, read_away-to newest (read octets) k.packet k.reads from below s.1)
+  means-from (Err TooFar) s = let k : IsTakenPacket settings octets = taken_packet settings octets s.0 in (s.0, read_away-to newest (read octets) k.packet k.reads from below s.1)
   means-from (Err TooOld) s = (s.1, record { form = s.0; number = s.2 }, below-to newest s.1 s.3)
   means-from (Err Repeat) s = (s.1, record { form = s.0; number = s.2 }, not_below-to newest s.1 s.3, s.4)
   means-from (Ok (n, content)) s = (record { form = s.0; number = s.1 }, not_below-to newest n s.2, s.3, s.4)

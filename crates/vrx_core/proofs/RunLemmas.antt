@@ -12,7 +12,7 @@ use Rattle.vrx_core.specs.Meaning.{Meaning}
 use Rattle.vrx_core.specs.Window.{Content, Media, Fec, Empty, Packets, at, is_available}
 use Rattle.vrx_core.specs.Run.{Run, Piece, text_of, piece_at, numbers_from, all_some, stretch, is_start, first_alone, last_alone, run_of, runs, ◌>>=◌}
 use Rattle.vrx_core.specs.IsRun.{IsPiece, ArePieces, IsRun, RunsHolds}
-use Rattle.vrx_core.proofs.KeptLemmas.{available_cases}
+use Rattle.vrx_core.proofs.KeyLemmas.{available_cases}
 use Rattle.vrx_core.proofs.MemberLemmas.{Contains-head, Contains-tail, Contains-either, Contains-empty, found_tail, flat_map-from, flat_map-to, filter_map-from, filter_map-to}
 
 -- what a step gives comes from a value before it
@@ -114,7 +114,7 @@ list_all-to test [] all = refl
 list_all-to test (x ∷ xs) all = and_from (test x) (list_all test xs) all.0 (list_all-to test xs all.1)
 
 -- a test that holds of some of a list
-list_any-from : {X : Type 0} (test : X → Bool) (xs : List X) → list_any test xs ≡ true → (x : X) × Contains xs x × (test x ≡ true)
+pub list_any-from : {X : Type 0} (test : X → Bool) (xs : List X) → list_any test xs ≡ true → (x : X) × Contains xs x × (test x ≡ true)
 list_any-from test [] h = absurd (cc)
 list_any-from test (x ∷ xs) h = elim (or_cases (test x) (list_any test xs) h) [
   | inl here ↦ (x, Contains-head x xs, here)
@@ -122,7 +122,7 @@ list_any-from test (x ∷ xs) h = elim (or_cases (test x) (list_any test xs) h) 
 ]
 
 -- and back
-list_any-to : {X : Type 0} (test : X → Bool) (xs : List X) (x : X) → Contains xs x → test x ≡ true → list_any test xs ≡ true
+pub list_any-to : {X : Type 0} (test : X → Bool) (xs : List X) (x : X) → Contains xs x → test x ≡ true → list_any test xs ≡ true
 list_any-to test [] x c h = absurd (Contains-empty x c)
 list_any-to test (y ∷ xs) x c h = elim (Contains-either y xs x c) [
   | inl same ↦ or_left (test y) (list_any test xs) (ap test same ∙ h)
@@ -130,7 +130,7 @@ list_any-to test (y ∷ xs) x c h = elim (Contains-either y xs x c) [
 ]
 
 -- two tests that hold in the same case
-same_test : (a b : Bool) → (a ≡ true → b ≡ true) → (b ≡ true → a ≡ true) → a ≡ b
+pub same_test : (a b : Bool) → (a ≡ true → b ≡ true) → (b ≡ true → a ≡ true) → a ≡ b
 same_test true b to from = sym (to refl)
 same_test false true to from = from refl
 same_test false false to from = refl

@@ -3,7 +3,6 @@ use Rattle.std.proofs.Common.{◌≡◌, ◌↔◌, ℕ, suc, ◌+◌, max, List
 use Rattle.std.specs.Prelude.{Option, Some, None, Result, Ok, Err}
 use Rattle.std.specs.Result.{IsErr}
 use Rattle.std.proofs.lemmas.Bool.{true≢false}
-use Rattle.std.proofs.lemmas.List.Elements.{All-from_recursion, recursion_from_All}
 use Rattle.std.specs.Option.{option_map}
 use Rattle.vrx_core.specs.Meaning.{Meaning}
 use Rattle.vrx_core.specs.Descriptor.{vp8}
@@ -13,8 +12,8 @@ use Rattle.vrx_core.specs.Run.{runs}
 use Rattle.vrx_core.specs.Deliverable.{answer}
 use Rattle.vrx_core.specs.History.{now}
 use Rattle.vrx_core.specs.Machine.{Reply, ToDatagram, ToPull, Snapshot, latest, last_pulled, frame_of, next_frame, pulled_of, after_datagram, after_pull, next, what_of, reply_now, grown, snapshots, reply}
-use Rattle.vrx_core.specs.StandsFor.{Parts, StandsFor, NoneBeyond}
-use Rattle.vrx_core.specs.Step.{IsSound, IsHandled, parts_of, counted, with_datagram, with_pull, next_whole}
+use Rattle.vrx_core.specs.StandsFor.{Parts, StandsFor, NoneStands}
+use Rattle.vrx_core.specs.Step.{IsSound, IsHandled, parts_of, counted, with_datagram, with_pull, next_run, next_joined}
 use Rattle.vrx_core.specs.declared.settings.Settings.{Settings}
 use Rattle.vrx_core.specs.declared.event.Event.{Event}
 use Rattle.vrx_core.specs.declared.event.Event.TheVariants.{Datagram, Pull}
@@ -22,7 +21,7 @@ use Rattle.vrx_core.specs.declared.reply.Reason.{Reason}
 use Rattle.vrx_core.specs.declared.reply.What.{What}
 use Rattle.vrx_core.specs.declared.reply.Frame.{Frame}
 use Rattle.vrx_core.specs.declared.reply.Pulled.TheVariants.{NotReady}
-use Rattle.vrx_core.proofs.FormLemmas.{next-whole, none-beyond, beyond-none}
+use Rattle.vrx_core.proofs.SearchLemmas.{next-answer, joined-none, joined-none-stands, stands-none}
 
 -- what stands after one event more
 pub snapshots-cons : (settings : Settings) (codec : Meaning) (e : Event) (h : List Event) → snapshots settings codec (e ∷ h) ≡ grown settings codec (snapshots settings codec h) e
@@ -129,15 +128,15 @@ datagram-refused parts after moment octets what handled refused = handled.leaves
   alone (Ok taken) h = absurd (true≢false (sym h))
 
 -- what the engine hands out is the frame that a pull gives
-frame-is : (parts : Parts) (h : List Event) → IsSound parts → StandsFor vp8 parts h → next_whole parts.last_pulled parts.packets ≡ next_frame vp8 (snapshots parts.settings vp8 h)
+frame-is : (parts : Parts) (h : List Event) → IsSound parts → StandsFor vp8 parts h → next_joined parts.last_pulled parts.packets ≡ next_frame vp8 (snapshots parts.settings vp8 h)
 frame-is parts h sound stands =
     let past : List Snapshot = snapshots parts.settings vp8 h in
     let s : Snapshot = latest past in
-    next-whole parts.settings parts.packets s.front parts.last_pulled (map (λ t. t.packets) past) sound.sorted sound.taken
+    next-answer parts.settings s.front parts.last_pulled (map (λ t. t.packets) past) parts.packets sound.sorted sound.taken
     ∙ ap (λ p. option_map frame_of (answer p s.front (runs vp8 s.front (map (λ t. t.packets) past) parts.packets))) stands.last_pulled
     ∙ ap (λ ps. option_map frame_of (answer (last_pulled s.pulled) s.front (runs vp8 s.front (map (λ t. t.packets) past) ps))) stands.packets
 
-pub pull-stands : (parts after : Parts) (moment : ℕ) (frame : Option Frame) (h : List Event) → IsSound parts → frame ≡ next_whole parts.last_pulled parts.packets → after ≡ with_pull parts moment frame → StandsFor vp8 parts h → StandsFor vp8 after (Pull moment ∷ h)
+pub pull-stands : (parts after : Parts) (moment : ℕ) (frame : Option Frame) (h : List Event) → IsSound parts → frame ≡ next_joined parts.last_pulled parts.packets → after ≡ with_pull parts moment frame → StandsFor vp8 parts h → StandsFor vp8 after (Pull moment ∷ h)
 pull-stands parts after moment frame h sound is left stands =
     let past : List Snapshot = snapshots parts.settings vp8 h in
     let given : Option Frame = next_frame vp8 past in
@@ -145,12 +144,12 @@ pull-stands parts after moment frame h sound is left stands =
     subst (λ a. StandsFor vp8 a (Pull moment ∷ h)) (sym there)
     (stands-from parts (with_pull parts moment given) h (Pull moment) (settings-pull parts moment given) (shows-pull parts (latest past) (length h) moment given (shows-from parts h stands)))
 
-pub pull-reply : (parts : Parts) (moment : ℕ) (frame : Option Frame) (h : List Event) → IsSound parts → frame ≡ next_whole parts.last_pulled parts.packets → StandsFor vp8 parts h → ToPull (pulled_of frame) ≡ reply parts.settings vp8 h (Pull moment)
+pub pull-reply : (parts : Parts) (moment : ℕ) (frame : Option Frame) (h : List Event) → IsSound parts → frame ≡ next_joined parts.last_pulled parts.packets → StandsFor vp8 parts h → ToPull (pulled_of frame) ≡ reply parts.settings vp8 h (Pull moment)
 pull-reply parts moment frame h sound is stands = ap (λ f. ToPull (pulled_of f)) (is ∙ frame-is parts h sound stands) ∙ sym (reply-is parts.settings vp8 h (Pull moment))
 
--- where a pull answers NotReady, the engine has no frame to hand out
-pub pull-none : (parts : Parts) (moment : ℕ) (h : List Event) → IsSound parts → StandsFor vp8 parts h → reply parts.settings vp8 h (Pull moment) ≡ ToPull NotReady → next_whole parts.last_pulled parts.packets ≡ None
-pull-none parts moment h sound stands answered = none (next_whole parts.last_pulled parts.packets) (pull-reply parts moment _ h sound refl stands ∙ answered) where
+-- where a pull answers NotReady, the engine's search finds no run
+pub pull-none : (parts : Parts) (moment : ℕ) (h : List Event) → IsSound parts → StandsFor vp8 parts h → reply parts.settings vp8 h (Pull moment) ≡ ToPull NotReady → next_run parts.last_pulled parts.packets ≡ None
+pull-none parts moment h sound stands answered = joined-none parts.settings parts.last_pulled parts.packets sound.sorted sound.taken (none (next_joined parts.last_pulled parts.packets) (pull-reply parts moment _ h sound refl stands ∙ answered)) where
   none : (o : Option Frame) → ToPull (pulled_of o) ≡ ToPull NotReady → o ≡ None
   none None h = refl
   none (Some frame) h = absurd cc
@@ -174,12 +173,12 @@ pull-counts parts after moment frame left = subst (λ (p : Parts). (p.events ≡
   counts None = (refl, refl)
   counts (Some frame) = (refl, refl)
 
--- a pull answers NotReady exactly where no packet lies beyond the last frame pulled
-pub not_ready-exactly : (parts : Parts) (frame : Option Frame) → IsSound parts → frame ≡ next_whole parts.last_pulled parts.packets → (pulled_of frame ≡ NotReady) ↔ NoneBeyond parts
-not_ready-exactly parts frame sound is = (λ h. none (sym is ∙ no_frame frame h), λ none_beyond. ap pulled_of (is ∙ beyond-none parts.last_pulled parts.packets (recursion_from_All _ parts.packets none_beyond))) where
+-- a pull answers NotReady exactly where no run stands
+pub not_ready-exactly : (parts : Parts) (frame : Option Frame) → IsSound parts → frame ≡ next_joined parts.last_pulled parts.packets → (pulled_of frame ≡ NotReady) ↔ NoneStands vp8 parts
+not_ready-exactly parts frame sound is = (
+  λ h. joined-none-stands parts.settings parts.last_pulled parts.packets sound.sorted sound.taken (sym is ∙ no_frame frame h),
+  λ none. ap pulled_of (is ∙ stands-none parts.settings parts.last_pulled parts.packets sound.sorted sound.taken (none None [])),
+) where
   no_frame : (o : Option Frame) → pulled_of o ≡ NotReady → o ≡ None
   no_frame None h = refl
   no_frame (Some frame) h = absurd (cc)
-
-  none : next_whole parts.last_pulled parts.packets ≡ None → NoneBeyond parts
-  none h = All-from_recursion _ parts.packets (none-beyond parts.settings parts.last_pulled parts.packets sound.taken h)

@@ -1,15 +1,17 @@
 -- What is taken of a sender's datagram.
 use Rattle.std.proofs.Common.{◌≡◌, ℕ, Bool, true, false, List, Option, Some, None, IfSome, IsSomeAnd, Result, Ok, Err, ok_or, option_and_then, slice_get, refl, sym, ◌∙◌, ap, subst}
 use Rattle.vrx_num.specs.Extended.{extended}
+use Rattle.std.proofs.lemmas.Option.{same_Some}
 use Rattle.vrx_rtp.specs.Packet.{Packet, read}
 use Rattle.vrx_core.specs.Meaning.{Meaning}
 use Rattle.vrx_core.specs.Window.{Content, Packets, is_available}
 use Rattle.vrx_core.specs.Window as window
 use Rattle.vrx_core.specs.Form.{is_form}
 use Rattle.vrx_core.specs.Verdict.{refused, number_of, is_too_old, verdict, ◌>>=◌, ◌>>◌}
-use Rattle.vrx_core.specs.Sender.{SentFrame, SentPacket, Media, Sender, wire_of}
+use Rattle.vrx_core.specs.Sender.{SentPacket, Media, Sender, wire_of}
 use Rattle.vrx_core.specs.WireForm.{IsWireForm, content_of}
-use Rattle.vrx_core.specs.HonestSender.{TravelsWhole, Carries, HonestSender}
+use Rattle.vrx_core.specs.HonestSender.{HonestSender}
+use Rattle.vrx_core.proofs.PartLemmas.{IsSent, packet_sent, text_in, some_from, some_there}
 use Rattle.vrx_core.specs.declared.settings.Settings.{Settings}
 use Rattle.vrx_core.specs.declared.reply.Reason.{Reason}
 use Rattle.vrx_core.specs.declared.reply.Reason.TheVariants.{Form, TooFar, TooOld, Repeat}
@@ -89,29 +91,35 @@ verdict_form settings newest packets octets e = ap (λ form. rows octets form (n
 pub number_of-text : (newest : Option ℕ) (text : List ℕ) (packet : Packet) (wire : ℕ) → read text ≡ Some packet → packet.seq ≡ wire → number_of newest text ≡ extended newest wire
 number_of-text newest text packet wire reads same = ap (option_and_then (λ (p : Packet). extended newest p.seq)) reads ∙ ap (extended newest) same
 
--- a datagram brings the whole of the sender's frame of this place
-pub record Brings (settings : Settings) (codec : Meaning) (sender : Sender) (i : ℕ) (octets : List ℕ) : Type 0 where
-  pub frame : SentFrame
-  pub sent : slice_get sender.frames i ≡ Some frame
-  pub travels : TravelsWhole settings codec (wire_of sender i) frame octets
+-- a datagram brings the sender's packet of this place: it reads as a packet of its number, and is of a form that is
+-- taken
+pub record Brings (settings : Settings) (sender : Sender) (i : ℕ) (octets : List ℕ) : Type 0 where
+  pub packet : Packet
+  pub reads : read octets ≡ Some packet
+  pub number : packet.seq ≡ wire_of sender i
+  pub form : is_form settings octets ≡ false
   pub carried : IsSomeAnd (slice_get sender.packets i) (λ packet. window.Media octets ≡ content_of packet)
 
-module _ (settings : Settings) (codec : Meaning) (sender : Sender) (i : ℕ) (octets : List ℕ) where
-  -- the packet's text, in a frame that is there
-  brings_frame : (f k : ℕ) (text : List ℕ) → octets ≡ text → slice_get sender.packets i ≡ Some (Media f k text) → (o : Option SentFrame) → slice_get sender.frames i ≡ o → IsSomeAnd o (Carries settings codec sender i (Media f k text)) → Brings settings codec sender i octets
-  brings_frame f k text same there None is carries = absurd carries
-  brings_frame f k text same there (Some frame) is carries = record {
-    frame = frame;
-    sent = is;
-    travels = subst (λ (t : List ℕ). TravelsWhole settings codec (wire_of sender i) frame t) (sym same) carries.2;
-    carried = subst (λ (o : Option SentPacket). IsSomeAnd o (λ packet. window.Media octets ≡ content_of packet)) (sym there) (ap window.Media same);
-  }
+module _ (settings : Settings) (codec : Meaning) (sender : Sender) (honest : HonestSender settings codec sender) (i : ℕ) (octets : List ℕ) where
+  -- a text is that of the packet
+  brings_text : (packet : SentPacket) → slice_get sender.packets i ≡ Some packet → octets ≡ text_in packet → window.Media octets ≡ content_of packet → Brings settings sender i octets
+  brings_text packet there same carried =
+      let s : IsSent settings codec sender honest i = packet_sent settings codec sender honest i packet there in
+      let text_is : octets ≡ s.carried.text = same ∙ ap text_in (same_Some packet (Media s.f s.k s.carried.text) (sym there ∙ s.part.sent)) in
+      record {
+        packet = s.carried.packet;
+        reads = ap read text_is ∙ s.part.media.reads;
+        number = s.part.media.number;
+        form = ap (is_form settings) text_is ∙ s.part.media.form;
+        carried = some_from (λ p. window.Media octets ≡ content_of p) (slice_get sender.packets i) packet there carried;
+      }
 
   -- the packet that is there
-  brings_packet : (o : Option SentPacket) → slice_get sender.packets i ≡ o → IsSomeAnd o (λ packet. IsWireForm packet octets) → IfSome o (λ packet. IsSomeAnd (slice_get sender.frames i) (Carries settings codec sender i packet)) → Brings settings codec sender i octets
-  brings_packet None is wire carries = absurd wire
-  brings_packet (Some (Media f k text)) is wire carries = brings_frame f k text wire is (slice_get sender.frames i) refl carries
+  brings_packet : (packet : SentPacket) → slice_get sender.packets i ≡ Some packet → IsWireForm packet octets → Brings settings sender i octets
+  brings_packet (Media f k text) there wire = brings_text (Media f k text) there wire (ap window.Media wire)
 
-  -- a wire form of an honest sender's packet brings a whole frame
-  pub brings : HonestSender settings codec sender → IsSomeAnd (slice_get sender.packets i) (λ packet. IsWireForm packet octets) → Brings settings codec sender i octets
-  brings honest wire = brings_packet (slice_get sender.packets i) refl wire (honest.carries i)
+  -- a wire form of an honest sender's packet brings it
+  pub brings : IsSomeAnd (slice_get sender.packets i) (λ packet. IsWireForm packet octets) → Brings settings sender i octets
+  brings wire =
+      let p : (packet : SentPacket) × (slice_get sender.packets i ≡ Some packet) × IsWireForm packet octets = some_there (λ packet. IsWireForm packet octets) (slice_get sender.packets i) wire in
+      brings_packet p.0 p.1 p.2

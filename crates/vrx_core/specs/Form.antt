@@ -1,28 +1,36 @@
 -- Which datagrams the receiver doesn't take yet. The reason goes away once all forms are taken.
-use Rattle.std.specs.Prelude.{ℕ, ◌%◌, Bool, true, not, ◌==◌, nat_lt, List, [], ◌∷◌, length, slice_index, Option, Some, None}
+use Rattle.std.specs.Prelude.{ℕ, ◌%◌, Bool, true, ◌&&◌, not, ◌==◌, nat_lt, List, [], ◌∷◌, length, slice_index, Option, Some, None}
 use Rattle.std.specs.List.{list_any}
 use Rattle.vrx_rtp.specs.Packet.{Packet, read}
 use Rattle.vrx_core.specs.Descriptor.{bit}
 use Rattle.vrx_core.specs.declared.settings.Settings.{Settings}
 
--- what is refused of a plain packet (RFC 3550 5.1, RFC 7741 4.2 and 4.3)
+-- a payload begins a frame: bit S is 1 and PID is 0 (RFC 7741 4.2)
+abbrev pub begins_frame : List ℕ → Bool
+begins_frame payload = bit 16 (slice_index payload 0) && (slice_index payload 0 % 8 == 0)
+
+-- a payload begins a frame that is no keyframe: bit P of the octet behind the first, the frame's first, is 1 (RFC 7741
+-- 4.3)
+abbrev pub begins_delta : List ℕ → Bool
+begins_delta payload = begins_frame payload && bit 1 (slice_index payload 1)
+
+-- what is refused of a plain packet (RFC 3550 5.1, RFC 7741 4.2)
 abbrev pub packet_forms : Settings → Packet → List Bool
 packet_forms settings packet =
     -- another payload type; another SSRC
     not (packet.pt == settings.media_type) ∷ not (packet.ssrc == settings.media_ssrc)
     -- bit X of the payload's first octet
     ∷ bit 128 (slice_index packet.payload 0)
-    -- for now: the marker is 0; bit S is 0; PID isn't 0; the frame that begins behind it is no keyframe
-    ∷ not packet.marker ∷ not (bit 16 (slice_index packet.payload 0)) ∷ not (slice_index packet.payload 0 % 8 == 0) ∷ bit 1 (slice_index packet.payload 1) ∷ []
+    -- for now: a frame that is no keyframe begins here
+    ∷ begins_delta packet.payload ∷ []
 
--- what is refused of octets as they read: they are no plain packet, since (twelve octets being there, by the row above)
--- the first one isn't 0x80; or a packet's
--- forms
+-- what is refused of octets as they read: those that read as no plain packet, or a packet's forms
 abbrev pub reading_forms : Settings → Option Packet → List Bool
 reading_forms settings None = true ∷ []
 reading_forms settings (Some packet) = packet_forms settings packet
 
 -- whether a datagram is refused: it has more than 9,216 octets, or fewer than 14, so that a header and two octets of
--- payload don't fit (both limits are this project's own), or for how it reads
+-- payload don't fit (both limits are this project's own); or its first octet isn't 0x80, and it is no plain packet; or
+-- for the packet that it is
 abbrev pub is_form : Settings → List ℕ → Bool
 is_form settings octets = list_any (λ refused. refused) (nat_lt 9216 (length octets) ∷ nat_lt (length octets) 14 ∷ reading_forms settings (read octets))

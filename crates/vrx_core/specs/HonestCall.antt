@@ -20,13 +20,13 @@ pub record IsSentFrame (sent : SentFrame) (frame : Frame) : Type 0 where
   pub key : frame.key ≡ sent.key
   pub bytes : frame.bytes ≡ sent.bytes
 
--- a frame pulled after a history is the sender's frame f, under its packet's number; f is ready, and the least that is
+-- a frame pulled after a history is the sender's frame f, under its packets' numbers; f is ready, and the least that is
 pub record IsLeastReady (settings : Settings) (codec : Meaning) (sender : Sender) (h : List Event) (origins : List Origin) (frame : Frame) (f : ℕ) : Type 0 where
   pub ready : Ready settings codec sender h origins f
   pub least : (g : ℕ) → Ready settings codec sender h origins g → f ≤ g
-  pub first : frame.first ≡ ready.number
-  pub last : frame.last ≡ ready.number
-  pub sent : IsSentFrame ready.frame frame
+  pub first : frame.first ≡ ready.complete.first
+  pub last : frame.last ≡ ready.complete.last
+  pub sent : IsSentFrame ready.complete.frame frame
 
 -- a pull gives the least ready frame, of this place, and NotReady exactly where no frame is ready. What gives no frame
 -- has no place

@@ -1,49 +1,68 @@
--- An honest sender, for given settings and a codec. So far each frame has one part.
-use Rattle.std.specs.Prelude.{◌≡◌, ◌≢◌, ℕ, ◌+◌, ◌<◌, ◌≤◌, true, false, List, [], ◌∷◌, length, slice_get, Some, IfSome, IsSomeAnd, Ok}
+-- An honest sender, for given settings and a codec. So far each frame is a keyframe, and each packet is a part of one.
+use Rattle.std.specs.Prelude.{◌≡◌, ◌≢◌, ◌↔◌, ℕ, ◌+◌, ◌<◌, ◌≤◌, true, false, ◌==◌, if◌then◌else◌, List, [], ◌∷◌, map, length, slice_get, Contains, Some, IfSome, Ok}
 use Rattle.vrx_rtp.specs.Packet.{Packet, read}
-use Rattle.vrx_core.specs.Part.{Yes, Part}
+use Rattle.vrx_core.specs.Part.{Yes, No, Part}
 use Rattle.vrx_core.specs.Meaning.{Meaning}
 use Rattle.vrx_core.specs.Form.{is_form}
 use Rattle.vrx_core.specs.Sender.{SentFrame, SentPacket, Media, Sender, wire_of}
 use Rattle.vrx_core.specs.declared.settings.Settings.{Settings}
 
--- a text is a media packet of the stream, under this sequence number and with this part: it has at most 9,216
--- octets, reads as a plain RTP packet (no padding, extension or CSRC), has the media type and the media SSRC, and its
--- payload isn't empty and is read by the codec (RFC 3550 5.1)
-pub record IsMediaText (settings : Settings) (codec : Meaning) (wire : ℕ) (text : List ℕ) (packet : Packet) (part : Part) : Type 0 where
-  pub size : length text ≤ 9216
-  pub reads : read text ≡ Some packet
-  pub number : packet.seq ≡ wire
-  pub type : packet.pt ≡ settings.media_type
-  pub source : packet.ssrc ≡ settings.media_ssrc
-  pub payload : packet.payload ≢ []
-  pub part_reads : codec.read packet.payload ≡ Ok part
-
--- a frame travels whole in one packet: its only part begins it and has the marker, has its timestamp, and joins to
--- its bytes; it is a keyframe where the part says so
-pub record TravelsWhole (settings : Settings) (codec : Meaning) (wire : ℕ) (frame : SentFrame) (text : List ℕ) : Type 0 where
+-- what a packet carries: its text (the RTP packet), how the text reads, and what the payload says
+pub record Carried : Type 0 where
+  pub text : List ℕ
   pub packet : Packet
   pub part : Part
-  pub media : IsMediaText settings codec wire text packet part
-  pub timestamp : packet.ts ≡ frame.ts
-  pub marker : packet.marker ≡ true
-  pub start : part.start ≡ Yes
-  pub joins : codec.join (part ∷ []) ≡ Ok frame.bytes
-  pub key : part.key ≡ frame.key
-  -- so far the receiver takes whole keyframes alone
-  pub only_key : frame.key ≡ true
-  pub form : is_form settings text ≡ false
 
--- packet i of the sender is the only part of frame i
-abbrev pub Carries : Settings → Meaning → Sender → ℕ → SentPacket → SentFrame → Type 0
-Carries settings codec sender i (Media f k text) frame = (f ≡ i) × (k ≡ 0) × TravelsWhole settings codec (wire_of sender i) frame text
+-- a media packet of the stream, under this sequence number: its text has at most 9,216 octets and reads as a plain RTP
+-- packet (no padding, extension or CSRC), with the media type and the media SSRC; its payload isn't empty and is read
+-- by the codec (RFC 3550 5.1); and it is of a form that the receiver takes so far
+pub record IsMedia (settings : Settings) (codec : Meaning) (wire : ℕ) (carried : Carried) : Type 0 where
+  pub size : length carried.text ≤ 9216
+  pub reads : read carried.text ≡ Some carried.packet
+  pub number : carried.packet.seq ≡ wire
+  pub type : carried.packet.pt ≡ settings.media_type
+  pub source : carried.packet.ssrc ≡ settings.media_ssrc
+  pub payload : carried.packet.payload ≢ []
+  pub part_reads : codec.read carried.packet.payload ≡ Ok carried.part
+  pub form : is_form settings carried.text ≡ false
+
+-- packet i is part k of frame f, which has so many parts: it has the frame's timestamp, has the marker where it is the
+-- last part and not else, and begins the frame where it is the first part and not else (RFC 7741 4.1, 4.2)
+pub record IsPart (settings : Settings) (codec : Meaning) (sender : Sender) (f : ℕ) (frame : SentFrame) (count k i : ℕ) (carried : Carried) : Type 0 where
+  pub sent : slice_get sender.packets i ≡ Some (Media f k carried.text)
+  pub media : IsMedia settings codec (wire_of sender i) carried
+  pub timestamp : carried.packet.ts ≡ frame.ts
+  pub marker : (carried.packet.marker ≡ true) ↔ (k + 1 ≡ count)
+  pub start : carried.part.start ≡ (if k == 0 then Yes else No)
+
+-- packet i is part k of the frame, packet i + 1 is part k + 1, and so on
+abbrev pub AreParts : Settings → Meaning → Sender → ℕ → SentFrame → ℕ → ℕ → ℕ → List Carried → Type 0
+AreParts settings codec sender f frame count k i [] = Unit {0}
+AreParts settings codec sender f frame count k i (carried ∷ others) =
+    IsPart settings codec sender f frame count k i carried × AreParts settings codec sender f frame count (k + 1) (i + 1) others
+
+-- frame f travels in the packets from this place on: they are its parts, of which there is at least one, and join to its
+-- bytes; it is a keyframe where some part says so
+pub record Travels (settings : Settings) (codec : Meaning) (sender : Sender) (f : ℕ) (frame : SentFrame) (place : ℕ) (parts : List Carried) : Type 0 where
+  pub some : 0 < length parts
+  pub each : AreParts settings codec sender f frame (length parts) 0 place parts
+  pub joins : codec.join (map (λ carried. carried.part) parts) ≡ Ok frame.bytes
+  pub key : (frame.key ≡ true) ↔ ((carried : Carried) × Contains parts carried × (carried.part.key ≡ true))
+  -- so far the receiver takes keyframes alone
+  pub only_key : frame.key ≡ true
 
 pub record HonestSender (settings : Settings) (codec : Meaning) (sender : Sender) : Type 0 where
   pub begins : sender.first_wire < 65536
-  -- each frame has one part, in the order of the frames
-  pub one_each : length sender.packets ≡ length sender.frames
-  pub carries : (i : ℕ) → IfSome (slice_get sender.packets i) (λ packet. IsSomeAnd (slice_get sender.frames i) (Carries settings codec sender i packet))
+  -- the place of each frame's first packet, and what its packets carry
+  pub place : ℕ → ℕ
+  pub parts : ℕ → List Carried
+  -- each frame travels in the packets from its place on
+  pub travels : (f : ℕ) → IfSome (slice_get sender.frames f) (λ frame. Travels settings codec sender f frame (place f) (parts f))
+  -- frame after frame, in the order of the frames
+  pub in_order : (f g : ℕ) → f < g → g < length sender.frames → place f + length (parts f) ≤ place g
+  -- and there is no other packet
+  pub no_other : (i : ℕ) → i < length sender.packets → (f : ℕ) × (f < length sender.frames) × (place f ≤ i) × (i < place f + length (parts f))
   -- the first frame is a keyframe
   pub from_key : IfSome (slice_get sender.frames 0) (λ frame. frame.key ≡ true)
   -- frames beside each other have different timestamps
-  pub apart : (i : ℕ) → IfSome (slice_get sender.frames i) (λ frame. IfSome (slice_get sender.frames (i + 1)) (λ after. frame.ts ≢ after.ts))
+  pub apart : (f : ℕ) → IfSome (slice_get sender.frames f) (λ frame. IfSome (slice_get sender.frames (f + 1)) (λ after. frame.ts ≢ after.ts))

@@ -20,6 +20,7 @@ pub mod WireForm
 pub mod HonestSender
 pub mod HonestNetwork
 pub mod Ready
+pub mod HonestRuns
 pub mod HonestCall
 pub mod Held
 pub mod HonestTaken

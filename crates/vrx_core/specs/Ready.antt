@@ -1,9 +1,9 @@
--- A ready frame: one of the sender's frames that a pull may give. So far a frame has one part and needs no other frame.
-use Rattle.std.specs.Prelude.{◌≡◌, ℕ, ◌+◌, ◌<◌, true, List, [], ◌∷◌, slice_get, All, Some}
+-- A ready frame: one of the sender's frames that a pull may give. So far a frame needs no other frame.
+use Rattle.std.specs.Prelude.{◌≡◌, ℕ, ◌+◌, ◌<◌, ◌≤◌, true, List, [], ◌∷◌, slice_get, All, Some}
 use Rattle.vrx_core.specs.Meaning.{Meaning}
 use Rattle.vrx_core.specs.Window.{is_available}
 use Rattle.vrx_core.specs.Machine.{latest, snapshots}
-use Rattle.vrx_core.specs.Sender.{SentFrame, Sender, wire_of}
+use Rattle.vrx_core.specs.Sender.{SentFrame, Sender, Spans, wire_of}
 use Rattle.vrx_core.specs.HonestNetwork.{Origin, taken}
 use Rattle.vrx_core.specs.declared.settings.Settings.{Settings}
 use Rattle.vrx_core.specs.declared.event.Event.{Event}
@@ -15,15 +15,26 @@ IsNumber sender [] i n = ⊥
 IsNumber sender (first ∷ []) i n = n + first ≡ (wire_of sender first + 65536) + i
 IsNumber sender (j ∷ k ∷ js) i n = IsNumber sender (k ∷ js) i n
 
--- frame f of the sender, after a history, is ready
-pub record Ready (settings : Settings) (codec : Meaning) (sender : Sender) (h : List Event) (origins : List Origin) (f : ℕ) : Type 0 where
+-- the receiver knows the packets of frame f by the numbers from the first to the last
+pub record HasNumbers (sender : Sender) (js : List ℕ) (f first last : ℕ) : Type 0 where
+  pub from : ℕ
+  pub to : ℕ
+  pub spans : Spans sender f from to
+  pub first_is : IsNumber sender js from first
+  pub last_is : IsNumber sender js to last
+
+-- frame f of the sender stands complete after a history: each of its packets is available, and it lies beyond every
+-- frame that was pulled
+pub record StandsComplete (settings : Settings) (codec : Meaning) (sender : Sender) (h : List Event) (origins : List Origin) (f : ℕ) : Type 0 where
   pub frame : SentFrame
   pub sent : slice_get sender.frames f ≡ Some frame
-  -- its one part is packet f, and is available
-  pub number : ℕ
-  pub numbered : IsNumber sender (taken settings codec h origins) f number
-  pub available : is_available number (latest (snapshots settings codec h)).packets ≡ true
-  -- it lies beyond every frame that was pulled
-  pub beyond : All (λ frame. frame.last < number) (latest (snapshots settings codec h)).pulled
-  -- it needs no other frame
-  pub key : frame.key ≡ true
+  pub first : ℕ
+  pub last : ℕ
+  pub numbered : HasNumbers sender (taken settings codec h origins) f first last
+  pub available : (n : ℕ) → first ≤ n → n ≤ last → is_available n (latest (snapshots settings codec h)).packets ≡ true
+  pub beyond : All (λ frame. frame.last < first) (latest (snapshots settings codec h)).pulled
+
+-- it is ready where it needs no other frame, besides
+pub record Ready (settings : Settings) (codec : Meaning) (sender : Sender) (h : List Event) (origins : List Origin) (f : ℕ) : Type 0 where
+  pub complete : StandsComplete settings codec sender h origins f
+  pub key : complete.frame.key ≡ true

@@ -1,6 +1,6 @@
 -- A sender: what was sent, whatever came of it. So far a frame has neither layers nor references to other frames, and
 -- a sender sends media packets alone.
-use Rattle.std.specs.Prelude.{ℕ, ◌+◌, ◌%◌, Bool, List}
+use Rattle.std.specs.Prelude.{◌≡◌, ◌↔◌, ℕ, ◌+◌, ◌%◌, ◌≤◌, Bool, List, slice_get, IsSomeAnd}
 
 -- a frame as it was sent: its bytes, whether it is a keyframe, its RTP timestamp (RFC 3550 5.1)
 pub record SentFrame : Type 0 where
@@ -21,3 +21,12 @@ pub record Sender : Type 0 where
 -- the sequence number of packet i (RFC 3550 5.1: it rises by one for each packet sent)
 abbrev pub wire_of : Sender → ℕ → ℕ
 wire_of sender i = (sender.first_wire + i) % 65536
+
+-- a packet is a part of frame f
+abbrev pub IsOf : ℕ → SentPacket → Type 0
+IsOf f (Media g k text) = g ≡ f
+
+-- the packets of frame f are those from one place to another, of which there is at least one
+pub record Spans (sender : Sender) (f from to : ℕ) : Type 0 where
+  pub some : from ≤ to
+  pub exactly : (i : ℕ) → IsSomeAnd (slice_get sender.packets i) (IsOf f) ↔ ((from ≤ i) × (i ≤ to))

@@ -1,12 +1,13 @@
 -- One event over the engine's parts: what the machine does to what the engine keeps.
-use Rattle.std.specs.Prelude.{◌≡◌, ℕ, nat_lt, drop, if◌then◌else◌, ◌+◌, ◌≤◌, ◌*◌, max, Bool, true, false, List, [], ◌∷◌, Option, Some, None, IfSome, Result, Ok, Err}
-use Rattle.std.specs.Option.{option_map, option_and_then}
+use Rattle.std.specs.Prelude.{◌≡◌, ℕ, nat_lt, take, drop, if◌then◌else◌, ◌+◌, ◌≤◌, ◌*◌, max, Bool, true, false, not, ◌&&◌, ◌==◌, List, [], ◌∷◌, Option, Some, None, IfSome, Result, Ok, Err}
+use Rattle.std.specs.List.{flat_map}
+use Rattle.std.specs.Option.{option_map, option_map_or, option_and_then, option_or}
 use Rattle.std.specs.Ordering.{nat_cmp}
 use Rattle.std.specs.FinMap.Entries.{is_sorted}
-use Rattle.vrx_core.specs.Form.{is_form}
+use Rattle.vrx_core.specs.Form.{begins_frame, is_form}
 use Rattle.vrx_core.specs.Window.{Content, Media, Packets, newest_with, placed}
 use Rattle.vrx_rtp.specs.Packet.{Packet, read}
-use Rattle.vrx_core.specs.Run.{text_of}
+use Rattle.vrx_core.specs.Run.{text_of, ◌>>=◌}
 use Rattle.vrx_core.specs.Verdict.{verdict}
 use Rattle.vrx_core.specs.Machine.{what_of}
 use Rattle.vrx_core.specs.declared.reply.What.{What}
@@ -65,14 +66,57 @@ abbrev pub is_beyond : Option ℕ → ℕ → Bool
 is_beyond None n = true
 is_beyond (Some last) n = nat_lt last n
 
--- a packet as a frame by itself: its payload behind the descriptor's one octet (RFC 7741 4.2)
-abbrev pub whole_frame : ℕ → Packet → Frame
-whole_frame n packet = record { first = n; last = n; ts = packet.ts; key = true; bytes = drop 1 packet.payload }
+-- the packet of an entry
+abbrev pub packet_in : ℕ × Content → Option Packet
+packet_in entry = option_and_then read (text_of entry.1)
 
-abbrev pub entry_frame : ℕ × Content → Option Frame
-entry_frame entry = option_map (whole_frame entry.0) (option_and_then read (text_of entry.1))
+-- a packet goes on the run that begins with number n and has this timestamp, as its packet of this place: its number
+-- and its timestamp are so, and it begins a frame where it is the first, and not else
+abbrev pub goes_on : (n ts place number : ℕ) → Packet → Bool
+goes_on n ts place number packet =
+    (number == n + place) && (packet.ts == ts) && (if place == 0 then begins_frame packet.payload else not (begins_frame packet.payload))
 
--- the frame of the first entry beyond the last frame pulled
-abbrev pub next_whole : Option ℕ → Packets → Option Frame
-next_whole pulled [] = None
-next_whole pulled (entry ∷ entries) = if is_beyond pulled entry.0 then entry_frame entry else next_whole pulled entries
+-- how many packets the run has that begins with number n and has this timestamp, where these are its entries from this
+-- place on: up to the first marker
+abbrev pub run_from : (n ts place : ℕ) → Packets → Option ℕ
+run_from n ts place [] = None
+run_from n ts place (entry ∷ entries) = do
+  packet ← packet_in entry
+  if goes_on n ts place entry.0 packet then (if packet.marker then Some (place + 1) else run_from n ts (place + 1) entries) else None
+
+-- how many packets the run has that begins with the first of these entries
+abbrev pub run_length : Packets → Option ℕ
+run_length [] = None
+run_length (entry ∷ entries) = do
+  packet ← packet_in entry
+  run_from entry.0 packet.ts 0 (entry ∷ entries)
+
+-- the same, where that lies beyond the last frame pulled
+abbrev pub standing_length : Option ℕ → Packets → Option ℕ
+standing_length pulled [] = None
+standing_length pulled (entry ∷ entries) = if is_beyond pulled entry.0 then run_length (entry ∷ entries) else None
+
+-- the entries of the first run that lies beyond the last frame pulled
+abbrev pub next_run : Option ℕ → Packets → Option Packets
+next_run pulled [] = None
+next_run pulled (entry ∷ entries) = option_or (option_map (λ length. take length (entry ∷ entries)) (standing_length pulled (entry ∷ entries))) (next_run pulled entries)
+
+-- what an entry adds to its frame: the payload behind the descriptor's one octet (RFC 7741 4.2)
+abbrev pub body_in : ℕ × Content → List ℕ
+body_in entry = option_map_or (λ packet. drop 1 packet.payload) (packet_in entry) []
+
+-- the number of the last of some entries, of which this is the first and these are the others
+abbrev pub last_of : ℕ × Content → Packets → ℕ
+last_of entry [] = entry.0
+last_of entry (next ∷ entries) = last_of next entries
+
+-- the frame that the entries of a run join to
+abbrev pub joined : Packets → Option Frame
+joined [] = None
+joined (entry ∷ entries) = do
+  packet ← packet_in entry
+  Some (record { first = entry.0; last = last_of entry entries; ts = packet.ts; key = true; bytes = flat_map body_in (entry ∷ entries) })
+
+-- the frame that a pull gives
+abbrev pub next_joined : Option ℕ → Packets → Option Frame
+next_joined pulled packets = option_and_then joined (next_run pulled packets)

@@ -4,13 +4,14 @@ ghost use Rattle.std.specs.Prelude.{◌≡◌, ◌+◌, ◌<◌, ◌≤◌, ◌�
 ghost use Rattle.vrx_core.specs.Descriptor.{vp8};
 ghost use Rattle.vrx_core.specs.Machine.{Reply, ToDatagram, ToPull, what_of, pulled_of, reply};
 ghost use Rattle.vrx_core.specs.Verdict.{verdict as verdict_of};
-ghost use Rattle.vrx_core.specs.StandsFor.{StandsFor, NoneBeyond, IsBadType};
+ghost use Rattle.vrx_core.specs.StandsFor.{StandsFor, NoneStands, IsBadType};
 ghost use Rattle.vrx_core.specs.Window.{newest_with as newest_of};
-ghost use Rattle.vrx_core.specs.Step.{IsSound, IsHandled, counted, with_pull, next_whole};
+ghost use Rattle.vrx_core.specs.Step.{IsSound, IsHandled, counted, with_pull, next_run, next_joined};
 ghost use Rattle.vrx_core.specs.declared.event.Event.{Event};
 
-use crate::held::{Held, next_frame, place};
+use crate::held::{Held, place};
 use crate::reply::{Frame, Handled, Pulled, What};
+use crate::runs::next_frame;
 use crate::settings::{NewFault, Settings};
 use crate::verdict::verdict;
 use bytes::Bytes;
@@ -140,15 +141,15 @@ impl Engine {
     /// Gives the decoder the next frame, at this moment in milliseconds.
     ///
     /// `NoMemory` changes nothing, the clock and the count included. Where no frame is ready it isn't answered:
-    /// `NotReady` comes exactly where no packet lies beyond the last frame pulled, for now that each packet is a whole
-    /// keyframe.
+    /// `NotReady` comes exactly where no run of the packets stands beyond the last frame pulled, for now that each run is
+    /// a keyframe.
     pub fn pull(&mut self, moment: u64) -> Result<Pulled, NoMemory>
         requires { self.old.events < 1048576 }
         ensures stands { (h : List Event) → StandsFor vp8 self.old h →
             OnOk result (StandsFor vp8 self.new (Event.Pull moment ∷ h)) }
         ensures reply { (h : List Event) → StandsFor vp8 self.old h →
             IfOk result (λ pulled. ToPull pulled ≡ reply self.old.settings vp8 h (Event.Pull moment)) }
-        ensures not_ready_exactly { IfOk result (λ pulled. (pulled ≡ Pulled.NotReady) ↔ NoneBeyond self.old) }
+        ensures not_ready_exactly { IfOk result (λ pulled. (pulled ≡ Pulled.NotReady) ↔ NoneStands vp8 self.old) }
         ensures counts { OnOk result ((self.new.events ≡ self.old.events + 1) ×
             (self.new.clock ≡ max self.old.clock moment)) }
         ensures settings { self.new.settings ≡ self.old.settings }
@@ -188,10 +189,10 @@ impl Engine {
     /// Gives the next frame. Memory is taken first: an `Err` changes nothing, and where no frame is ready none is taken.
     fn hand_out(&mut self, moment: u64) -> Result<Option<Frame>, NoMemory>
         requires { self.old.events < 1048576 }
-        ensures frame { IfOk result (λ frame. frame ≡ next_whole self.old.last_pulled self.old.packets) }
+        ensures frame { IfOk result (λ frame. frame ≡ next_joined self.old.last_pulled self.old.packets) }
         ensures after { IfOk result (λ frame. self.new ≡ with_pull self.old moment frame) }
         ensures err { OnErr result (self.new ≡ self.old) }
-        ensures none { next_whole self.old.last_pulled self.old.packets ≡ None → IsOk result }
+        ensures none { next_run self.old.last_pulled self.old.packets ≡ None → IsOk result }
         ensures sound { IsSound self.old }
     {
         let frame = next_frame(self.alloc, &self.settings, &self.held, self.last_pulled)?;

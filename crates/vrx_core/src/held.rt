@@ -4,13 +4,8 @@ ghost use Rattle.std.specs.Prelude.{◌≡◌, ◌+◌, ◌<◌, ◌≤◌, true
 ghost use Rattle.std.specs.Ordering.{nat_cmp};
 ghost use Rattle.std.specs.FinMap.Entries.{put, is_sorted};
 ghost use Rattle.vrx_core.specs.Window.{Content, Media, is_available, in_window, placed};
-ghost use Rattle.vrx_core.specs.Form.{is_form};
-ghost use Rattle.vrx_core.specs.Step.{AreTaken, is_beyond, entry_frame, next_whole};
 ghost use Rattle.vrx_core.specs.Held.{entry_of, entries};
 
-use crate::form::taken_form;
-use crate::reply::{Frame, FrameBytes};
-use crate::settings::Settings;
 use bytes::Bytes;
 use std::alloc::{AllocError, Global};
 use vrx_num::NoMemory;
@@ -74,54 +69,4 @@ pub(crate) fn place(held: &mut Vec<Held>, newest: u64, packet: Held) -> Result<(
     held.insert(at, packet)?;
     held.retain(|packet| is_in_window(newest, packet.number));
     Ok(())
-}
-
-/// Whether a number lies beyond the last frame pulled.
-fn lies_beyond(pulled: Option<u64>, number: u64) -> bool
-    ensures { result ≡ is_beyond pulled number }
-{
-    match pulled {
-        None => true,
-        Some(last) => last < number,
-    }
-}
-
-/// The frame that a held packet is by itself.
-fn frame_of(alloc: Global, settings: &Settings, packet: &Held) -> Result<Frame, NoMemory>
-    requires { is_form settings.now packet.now.text ≡ false }
-    ensures { IfOk result (λ frame. entry_frame (entry_of packet.now) ≡ Some frame) }
-{
-    let Some(view) = taken_form(settings, packet.text.as_slice()) else {
-        unreachable!()
-    };
-    let [_, body @ ..] = view.payload else {
-        unreachable!()
-    };
-    let bytes = Vec::from_slice(alloc, body)?;
-    Ok(Frame {
-        first: packet.number,
-        last: packet.number,
-        ts: view.ts,
-        key: true,
-        bytes: FrameBytes::from_vec(bytes),
-    })
-}
-
-/// The first frame beyond the last one pulled, for now that each packet is a whole keyframe.
-pub(crate) fn next_frame(
-    alloc: Global,
-    settings: &Settings,
-    held: &[Held],
-    pulled: Option<u64>,
-) -> Result<Option<Frame>, NoMemory>
-    requires { AreTaken settings.now (entries held.now) }
-    ensures value { IfOk result (λ frame. frame ≡ next_whole pulled (entries held.now)) }
-    ensures none { next_whole pulled (entries held.now) ≡ None → IsOk result }
-{
-    for packet in held {
-        if lies_beyond(pulled, packet.number) {
-            return Ok(Some(frame_of(alloc, settings, packet)?));
-        }
-    }
-    Ok(None)
 }

@@ -1,9 +1,10 @@
 //! What holds of every call. A law runs nothing: its clause is what it is for.
 
 ghost use Rattle.vrx_core.specs.HonestCall.{HonestCallHolds};
+ghost use Rattle.vrx_core.specs.HonestRuns.{HonestRunsHolds};
 ghost use Rattle.vrx_core.specs.HonestTaken.{HonestTakenHolds};
 
-/// The honest call. An honest sender sends whole keyframes of one packet each. An honest network brings what was
+/// The honest call. An honest sender sends keyframes of any number of packets each. An honest network brings what was
 /// sent, with loss, repeats and in any order, each packet at most 32,768 places away from the greatest one taken so
 /// far, and beside it only octets of a form that the receiver doesn't take. Then the frames pulled are frames that were
 /// sent, byte for byte, in the order in which they were sent, each at most once, and the first is a keyframe. Each
@@ -20,4 +21,11 @@ pub fn honest_call()
 /// octet, and nothing else is available.
 pub fn honest_taken()
     ensures { HonestTakenHolds }
+{}
+
+/// The runs of an honest call, after each of its events. Each run that stands is a frame that was sent: it has the
+/// numbers of the frame's packets, its timestamp, its kind and its bytes. And each frame all of whose packets are
+/// available, and which lies beyond every frame pulled, is a run that stands.
+pub fn honest_runs()
+    ensures { HonestRunsHolds }
 {}

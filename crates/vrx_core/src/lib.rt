@@ -12,6 +12,7 @@ mod held;
 mod laws;
 mod meanings;
 mod reply;
+mod runs;
 mod settings;
 #[cfg(test)]
 mod tests;
@@ -19,7 +20,7 @@ mod verdict;
 
 pub use engine::{Engine, MOST_EVENTS};
 pub use event::{Event, EventBytes};
-pub use laws::{honest_call, honest_taken};
+pub use laws::{honest_call, honest_runs, honest_taken};
 pub use meanings::{
     available_are, clock_is, none_passed, passed_stays, pulled_rise, reasons_mean, runs_are,
 };

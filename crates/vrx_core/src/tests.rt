@@ -93,12 +93,9 @@ fn other_forms_are_refused_and_only_counted(rt: HostRuntime) -> Result<(), Fail>
     for (moment, at, octet) in [
         (7, 0, 0x90), // an extension
         (6, 1, 0xe1), // type 97
-        (5, 1, 0x60), // marker 0
         (4, 11, 0x0b), // source 11
         (3, 12, 0x90), // X = 1
-        (2, 12, 0x00), // S = 0
-        (1, 12, 0x11), // PID = 1
-        (0, 13, 0x01), // P = 1, no keyframe
+        (0, 13, 0x01), // S = 1, PID = 0, P = 1: a delta frame begins
     ] {
         let count = engine.events();
         let what = datagram(&mut engine, moment, &changed(at, octet))?;
@@ -106,7 +103,7 @@ fn other_forms_are_refused_and_only_counted(rt: HostRuntime) -> Result<(), Fail>
         assert_eq!(rt; engine.events(), count + 1);
         assert_eq!(rt; engine.now(), 7);
     }
-    assert_eq!(rt; engine.events(), 8);
+    assert_eq!(rt; engine.events(), 5);
     // the first taken is in the cycle 1 still: no other number was taken
     assert_eq!(rt;
         datagram(&mut engine, 8, &keyframe(1))?,
@@ -171,6 +168,33 @@ fn frames_are_pulled_in_order(rt: HostRuntime) -> Result<(), Fail> {
     for want in [Some(65_538), Some(67_585), None] {
         assert_eq!(rt; pull_first(&mut engine)?, want);
     }
+    Ok(())
+}
+
+#[test]
+fn parts_in_any_order_join_to_one_frame(rt: HostRuntime) -> Result<(), Fail> {
+    let mut engine = Engine::new(rt.alloc(), SETTINGS)?;
+    // S = 1 and the frame's first octets, a part between, and the last part with the marker
+    let first: [u8; 15] = [
+        0x80, 0x60, 0, 1, 0, 0, 0, 0, 0, 0, 0, 0x0a, 0x10, 0x00, 0xaa,
+    ];
+    let second: [u8; 14] = [0x80, 0x60, 0, 2, 0, 0, 0, 0, 0, 0, 0, 0x0a, 0x00, 0xbb];
+    let third: [u8; 14] = [0x80, 0xe0, 0, 3, 0, 0, 0, 0, 0, 0, 0, 0x0a, 0x00, 0xcc];
+    assert_eq!(rt; datagram(&mut engine, 0, &third)?, What::Media(65_539));
+    assert_eq!(rt; datagram(&mut engine, 0, &first)?, What::Media(65_537));
+    assert_eq!(rt; pull_first(&mut engine)?, None);
+    assert_eq!(rt; datagram(&mut engine, 0, &second)?, What::Media(65_538));
+    match pull(&mut engine, 0)? {
+        Pulled::NotReady => return Err("no frame")?,
+        Pulled::Frame(frame) => {
+            assert_eq!(rt; frame.first, 65_537);
+            assert_eq!(rt; frame.last, 65_539);
+            assert_eq!(rt; frame.ts, 0);
+            assert!(rt; frame.key);
+            assert_eq!(rt; frame.bytes.as_slice(), [0x00, 0xaa, 0xbb, 0xcc].as_slice());
+        }
+    }
+    assert_eq!(rt; pull_first(&mut engine)?, None);
     Ok(())
 }
 

@@ -79,6 +79,197 @@ fn calls_are_replayed(rt: HostRuntime) -> Result<(), Fail> {
     Ok(())
 }
 
+/// Keyframes in several packets, whole and spoilt: the name of the case, the lines behind the settings, and the
+/// transcript. The number of the first packet taken is its wire number and 65,536.
+const RUNS: [(&str, &str, &str); 29] = [
+    // Each number is taken; the pull finds all of 65537 to 65539, and joins what lies behind the descriptors.
+    (
+        "parts in the order 3, 1, 2",
+        "d 0 80e00003000000000000000a00cc\nd 0 80600001000000000000000a1000aa\nd 0 80600002000000000000000a00bb\np 1\n",
+        "2 media 65539\n3 media 65537\n4 media 65538\n5 frame 65537 65539 key 0 00aabbcc\n",
+    ),
+    // The marker is missing up to the third part.
+    (
+        "parts in the order 1, 2, 3, with a pull behind each",
+        "d 0 80600001000000000000000a1000aa\np 0\nd 0 80600002000000000000000a00bb\np 0\nd 0 80e00003000000000000000a00cc\np 0\np 0\n",
+        "2 media 65537\n3 notready\n4 media 65538\n5 notready\n6 media 65539\n7 frame 65537 65539 key 0 00aabbcc\n8 notready\n",
+    ),
+    // The start is missing up to the third part.
+    (
+        "parts in the order 2, 3, 1, with a pull behind each",
+        "d 0 80600002000000000000000a00bb\np 0\nd 0 80e00003000000000000000a00cc\np 0\nd 0 80600001000000000000000a1000aa\np 0\np 0\n",
+        "2 media 65538\n3 notready\n4 media 65539\n5 notready\n6 media 65537\n7 frame 65537 65539 key 0 00aabbcc\n8 notready\n",
+    ),
+    // The middle is missing up to the third part.
+    (
+        "parts in the order 3, 1, 2, with a pull behind each",
+        "d 0 80e00003000000000000000a00cc\np 0\nd 0 80600001000000000000000a1000aa\np 0\nd 0 80600002000000000000000a00bb\np 0\np 0\n",
+        "2 media 65539\n3 notready\n4 media 65537\n5 notready\n6 media 65538\n7 frame 65537 65539 key 0 00aabbcc\n8 notready\n",
+    ),
+    // 1 to 2 has two starts, and 1 alone no marker: 2 alone is a run. Behind its pull 1 doesn't stand.
+    (
+        "two starts in one stretch",
+        "d 0 80600001000000000000000a1000aa\nd 0 80e00002000000000000000a1000bb\np 0\np 0\n",
+        "2 media 65537\n3 media 65538\n4 frame 65538 65538 key 0 00bb\n5 notready\n",
+    ),
+    // 1 to 3 has a gap until 2 comes, which is a start: then 1 to 3 has two starts, and 2 to 3 one.
+    (
+        "a start that comes late",
+        "d 0 80600001000000000000000a1000aa\nd 0 80e00003000000000000000a00cc\np 0\nd 0 80600002000000000000000a1000bb\np 0\np 0\n",
+        "2 media 65537\n3 media 65539\n4 notready\n5 media 65538\n6 frame 65538 65539 key 0 00bbcc\n7 notready\n",
+    ),
+    // 1 to 3 has two markers, 1 to 2 one, at its end; 3 alone has no start.
+    (
+        "a marker in the middle",
+        "d 0 80600001000000000000000a1000aa\nd 0 80e00002000000000000000a00bb\nd 0 80e00003000000000000000a00cc\np 0\np 0\n",
+        "2 media 65537\n3 media 65538\n4 media 65539\n5 frame 65537 65538 key 0 00aabb\n6 notready\n",
+    ),
+    // 1 alone has no marker, 2 alone no start, and 1 to 2 has two timestamps.
+    (
+        "a timestamp that changes at the end",
+        "d 0 80600001000000000000000a1000aa\nd 0 80e00002000000010000000a00bb\np 0\n",
+        "2 media 65537\n3 media 65538\n4 notready\n",
+    ),
+    // 2 has another timestamp than 1 and 3, and without it they are no stretch.
+    (
+        "a timestamp that changes in the middle",
+        "d 0 80600001000000000000000a1000aa\nd 0 80600002000000010000000a00bb\nd 0 80e00003000000000000000a00cc\np 0\n",
+        "2 media 65537\n3 media 65538\n4 media 65539\n5 notready\n",
+    ),
+    // S = 0: no frame begins.
+    (
+        "no start",
+        "d 0 80e00001000000000000000a00aa\np 0\n",
+        "2 media 65537\n3 notready\n",
+    ),
+    // S = 1, but PID is 1 or 7: no frame begins.
+    (
+        "starts of other partitions",
+        "d 0 80e00001000000000000000a1100aa\nd 0 80e00003000000000000000a1700cc\np 0\n",
+        "2 media 65537\n3 media 65539\n4 notready\n",
+    ),
+    // Neither is a start: S = 0, or PID = 1. So the odd octets 01 behind tell of no delta frame, and join.
+    (
+        "odd octets behind the start",
+        "d 0 80600001000000000000000a1000aa\nd 0 80600002000000000000000a0001\nd 0 80e00003000000000000000a1101\np 0\n",
+        "2 media 65537\n3 media 65538\n4 media 65539\n5 frame 65537 65539 key 0 00aa0101\n",
+    ),
+    // 78 has R, N, S and R, and PID = 0: a start. 68 has R, N and R alone: none.
+    (
+        "bits that say nothing",
+        "d 0 80600001000000000000000a7800aa\nd 0 80e00002000000000000000a68bb\np 0\n",
+        "2 media 65537\n3 media 65538\n4 frame 65537 65538 key 0 00aabb\n",
+    ),
+    // S = 1, PID = 0 and an odd octet behind: 2 isn't taken, with the marker or without, and 1 and 3 are no stretch.
+    (
+        "the start of a delta frame in the middle",
+        "d 0 80600001000000000000000a1000aa\nd 0 80e00002000000000000000a1001bb\nd 0 80e00003000000000000000a00cc\nd 0 80600002000000000000000a1001bb\np 0\n",
+        "2 media 65537\n3 drop Form\n4 media 65539\n5 drop Form\n6 notready\n",
+    ),
+    // The refused one left nothing under its number, so the part that follows isn't a repeat.
+    (
+        "a part behind the start of a delta frame of its number",
+        "d 0 80600001000000000000000a1000aa\nd 0 80e00002000000000000000a1001bb\nd 0 80e00002000000000000000a00bb\np 0\n",
+        "2 media 65537\n3 drop Form\n4 media 65538\n5 frame 65537 65538 key 0 00aabb\n",
+    ),
+    // Beside 67584 the window begins at 65537: all three are in it.
+    (
+        "a window that begins at the first part",
+        "d 0 80600001000000000000000a1000aa\nd 0 80600002000000000000000a00bb\nd 0 80e00003000000000000000a00cc\nd 0 80600800000000000000000a00ee\np 0\n",
+        "2 media 65537\n3 media 65538\n4 media 65539\n5 media 67584\n6 frame 65537 65539 key 0 00aabbcc\n",
+    ),
+    // Beside 67585 it begins at 65538: 65538 to 65539 has no start. 65537 doesn't come back.
+    (
+        "a window that begins at the second part",
+        "d 0 80600001000000000000000a1000aa\nd 0 80600002000000000000000a00bb\nd 0 80e00003000000000000000a00cc\nd 0 80600801000000000000000a00ee\np 0\nd 0 80600001000000000000000a1000aa\np 0\n",
+        "2 media 65537\n3 media 65538\n4 media 65539\n5 media 67585\n6 notready\n7 drop TooOld\n8 notready\n",
+    ),
+    // Beside 67586 it begins at 65539, which is no start.
+    (
+        "a window that begins at the third part",
+        "d 0 80600001000000000000000a1000aa\nd 0 80600002000000000000000a00bb\nd 0 80e00003000000000000000a00cc\nd 0 80600802000000000000000a00ee\np 0\n",
+        "2 media 65537\n3 media 65538\n4 media 65539\n5 media 67586\n6 notready\n",
+    ),
+    // 65534 on the wire is the first taken, 131070; 65535, 0 and 1 are the numbers behind it.
+    (
+        "a frame round the wrap",
+        "d 0 8060fffe000000000000000a1000aa\nd 0 8060ffff000000000000000a00bb\nd 0 80600000000000000000000a00cc\nd 0 80e00001000000000000000a00dd\np 0\n",
+        "2 media 131070\n3 media 131071\n4 media 131072\n5 media 131073\n6 frame 131070 131073 key 0 00aabbccdd\n",
+    ),
+    // 0 is the first taken, 65536; 65535 and 65534 are nearest just below it.
+    (
+        "a frame round the wrap, from behind it",
+        "d 0 80600000000000000000000a00cc\nd 0 80e00001000000000000000a00dd\nd 0 8060ffff000000000000000a00bb\nd 0 8060fffe000000000000000a1000aa\np 0\n",
+        "2 media 65536\n3 media 65537\n4 media 65535\n5 media 65534\n6 frame 65534 65537 key 0 00aabbccdd\n",
+    ),
+    // 3 to 4 is pulled while 2 is missing; behind that, 1 to 2 is whole, and doesn't stand.
+    (
+        "the second of two frames is whole first",
+        "d 0 80600001000000000000000a1000aa\nd 0 80600003000000010000000a1000cc\nd 0 80e00004000000010000000a00dd\np 0\nd 0 80e00002000000000000000a00bb\np 0\n",
+        "2 media 65537\n3 media 65539\n4 media 65540\n5 frame 65539 65540 key 1 00ccdd\n6 media 65538\n7 notready\n",
+    ),
+    // Both stand at the first pull: the lesser first number goes first, whichever came first.
+    (
+        "both of two frames are whole",
+        "d 0 80600003000000010000000a1000cc\nd 0 80e00004000000010000000a00dd\nd 0 80600001000000000000000a1000aa\nd 0 80e00002000000000000000a00bb\np 0\np 0\np 0\n",
+        "2 media 65539\n3 media 65540\n4 media 65537\n5 media 65538\n6 frame 65537 65538 key 0 00aabb\n7 frame 65539 65540 key 1 00ccdd\n8 notready\n",
+    ),
+    // Start and marker part them: 1 to 4 has two of each.
+    (
+        "two frames with one timestamp",
+        "d 0 80600001000000000000000a1000aa\nd 0 80e00002000000000000000a00bb\nd 0 80600003000000000000000a1000cc\nd 0 80e00004000000000000000a00dd\np 0\np 0\np 0\n",
+        "2 media 65537\n3 media 65538\n4 media 65539\n5 media 65540\n6 frame 65537 65538 key 0 00aabb\n7 frame 65539 65540 key 0 00ccdd\n8 notready\n",
+    ),
+    // 3 to 4 is a run, but 3 isn't beyond 5.
+    (
+        "parts that come late, before the frame that was pulled",
+        "d 0 80e00005000000010000000a1000ee\np 0\nd 0 80600003000000000000000a1000cc\np 0\nd 0 80e00004000000000000000a00dd\np 0\n",
+        "2 media 65541\n3 frame 65541 65541 key 1 00ee\n4 media 65539\n5 notready\n6 media 65540\n7 notready\n",
+    ),
+    // 2 alone has no start, and 1 to 2 has two markers, and begins where the last frame pulled ends.
+    (
+        "a part behind a whole frame that was pulled",
+        "d 0 80e00001000000000000000a1000aa\np 0\nd 0 80e00002000000000000000a00bb\np 0\n",
+        "2 media 65537\n3 frame 65537 65537 key 0 00aa\n4 media 65538\n5 notready\n",
+    ),
+    // 1 is available: its first octets stay, and are handed out.
+    (
+        "a part once more, with other octets",
+        "d 0 80600001000000000000000a1000aa\nd 0 80600001000000000000000a1000ff\nd 0 80e00002000000000000000a00bb\np 0\n",
+        "2 media 65537\n3 drop Repeat\n4 media 65538\n5 frame 65537 65538 key 0 00aabb\n",
+    ),
+    // A pull takes no packet away: both are available still, and the frame doesn't stand.
+    (
+        "parts once more, behind the pull",
+        "d 0 80600001000000000000000a1000aa\nd 0 80e00002000000000000000a00bb\np 0\nd 0 80600001000000000000000a1000aa\nd 0 80e00002000000000000000a00bb\np 0\n",
+        "2 media 65537\n3 media 65538\n4 frame 65537 65538 key 0 00aabb\n5 drop Repeat\n6 drop Repeat\n7 notready\n",
+    ),
+    // Thirteen octets: a header and a descriptor.
+    (
+        "a payload of one octet",
+        "d 0 80600001000000000000000a00\nd 0 80e00001000000000000000a10\np 0\n",
+        "2 drop Form\n3 drop Form\n4 notready\n",
+    ),
+    // 32770 on the wire is half of the space away from 65538, and 32769 one less, 98305; its window has neither part.
+    (
+        "a jump of 32,767",
+        "d 0 80600001000000000000000a1000aa\nd 0 80e00002000000000000000a00bb\nd 0 80e08002000000000000000a1000cc\nd 0 80e08001000000000000000a1000cc\np 0\np 0\n",
+        "2 media 65537\n3 media 65538\n4 drop TooFar\n5 media 98305\n6 frame 98305 98305 key 0 00cc\n7 notready\n",
+    ),
+];
+
+#[test]
+fn runs_are_handed_out(rt: HostRuntime) -> Result<(), Fail> {
+    for (name, lines, transcript) in RUNS {
+        for most in [1, 5, 100_000] {
+            let (status, text) = outcome(rt.alloc(), HEAD, lines, most)?;
+            assert_eq!(rt; status, Status::Done, "{name}");
+            assert_eq!(rt; text.as_slice(), transcript.as_bytes(), "{name}");
+        }
+    }
+    Ok(())
+}
+
 /// Captures with a bad line: the first line, the others, and the transcript.
 const BAD: [(&str, &str, &str); 12] = [
     ("", "", "error line 1 form\n"),

@@ -1,0 +1,44 @@
+-- The runs of an honest call are the sender's frames.
+use Rattle.std.specs.Prelude.{◌≡◌, ℕ, true, List, [], ◌∷◌, map, slice_get, Contains, Some}
+use Rattle.vrx_core.specs.Meaning.{Meaning}
+use Rattle.vrx_core.specs.Run.{Run, runs}
+use Rattle.vrx_core.specs.Deliverable.{stands}
+use Rattle.vrx_core.specs.Machine.{Snapshot, latest, last_pulled, snapshots}
+use Rattle.vrx_core.specs.Sender.{SentFrame, Sender}
+use Rattle.vrx_core.specs.HonestSender.{HonestSender}
+use Rattle.vrx_core.specs.HonestNetwork.{Origin, HonestNetwork, taken}
+use Rattle.vrx_core.specs.Ready.{HasNumbers, StandsComplete}
+use Rattle.vrx_core.specs.declared.settings.Settings.{Settings}
+use Rattle.vrx_core.specs.declared.event.Event.{Event}
+
+-- a run stands, of what stood after each event so far
+abbrev pub Stands : Meaning → List Snapshot → Run → Type 0
+Stands codec past run = let s : Snapshot = latest past in
+    Contains (runs codec s.front (map (λ t. t.packets) past) s.packets) run × (stands (last_pulled s.pulled) run ≡ true)
+
+-- a run is frame f of the sender: it has the numbers of its packets, its timestamp, its kind and its bytes
+pub record IsFrameRun (sender : Sender) (js : List ℕ) (f : ℕ) (run : Run) : Type 0 where
+  pub frame : SentFrame
+  pub sent : slice_get sender.frames f ≡ Some frame
+  pub numbered : HasNumbers sender js f run.first run.last
+  pub ts : run.ts ≡ frame.ts
+  pub key : run.key ≡ frame.key
+  pub bytes : run.bytes ≡ frame.bytes
+
+-- after a history, each run that stands is a frame of the sender, and each frame that stands complete is such a run
+pub record RunsRightly (settings : Settings) (codec : Meaning) (sender : Sender) (h : List Event) (origins : List Origin) : Type 0 where
+  pub frames : (run : Run) → Stands codec (snapshots settings codec h) run → (f : ℕ) × IsFrameRun sender (taken settings codec h origins) f run
+  pub runs : (f : ℕ) → StandsComplete settings codec sender h origins f → (run : Run) × Stands codec (snapshots settings codec h) run × IsFrameRun sender (taken settings codec h origins) f run
+
+-- after a history, and after each of the events that follow it
+abbrev pub RunsRightlyFrom : Settings → Meaning → Sender → List Event → List Origin → List Event → List Origin → Type 0
+RunsRightlyFrom settings codec sender h origins [] [] = RunsRightly settings codec sender h origins
+RunsRightlyFrom settings codec sender h origins (e ∷ es) (o ∷ os) =
+    RunsRightly settings codec sender h origins × RunsRightlyFrom settings codec sender (e ∷ h) (o ∷ origins) es os
+RunsRightlyFrom settings codec sender h origins [] (o ∷ os) = ⊥
+RunsRightlyFrom settings codec sender h origins (e ∷ es) [] = ⊥
+
+-- in every honest call the runs are so, whatever the settings and the codec's meaning. The forms that the receiver takes
+-- so far name VP8's bits, whatever the codec
+abbrev pub HonestRunsHolds : Type 0
+HonestRunsHolds = (settings : Settings) (codec : Meaning) (sender : Sender) (events : List Event) (origins : List Origin) → HonestSender settings codec sender → HonestNetwork settings codec sender [] [] events origins → RunsRightlyFrom settings codec sender [] [] events origins
