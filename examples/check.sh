@@ -1,7 +1,8 @@
 #!/usr/bin/env bash
 # Runs each example: the capture through replay, compared with the transcript, the status (0 where none is named) and,
-# where the example has them, the frames that the encoder made (timestamp, kind, size, SHA-256). Then each end that
-# can be brought about: its status, and its line on standard error.
+# where the example has them, the frames that the encoder made (timestamp, kind, size, SHA-256). Then the files
+# that tools made, which must come again. Then each end that can be brought about: its status, and its line on
+# standard error.
 set -u
 cd "$(dirname "$0")/.." || exit 1
 passed=0 failed=0
@@ -40,6 +41,23 @@ for example in examples/*/; do
     passed=$((passed + 1))
   fi
 done
+
+# again FILE INPUT WORD..: the command gives the file again, octet for octet
+again() {
+  local file=$1 input=$2
+  shift 2
+  if "$@" < "$input" 2> /dev/null | cmp -s - "$file"; then
+    passed=$((passed + 1))
+  else
+    echo "$file: '$*' gives another"
+    failed=$((failed + 1))
+  fi
+}
+
+call=examples/long_call
+again $call/capture /dev/null python3 tools/make_call.py 1 300
+again $call/sent /dev/null python3 tools/make_call.py 1 300 sent
+again $call/transcript $call/sent python3 tools/expected_frames.py
 
 # told STATUS LINE INPUT OUTPUT WORD..: with these words the program ends so, and standard error has this line
 told() {

@@ -1,14 +1,15 @@
--- A datagram of a form that the receiver takes is a part of a VP8 frame, and where it begins one, of a keyframe.
-use Rattle.std.proofs.Common.{◌≡◌, ℕ, ◌+◌, ◌/◌, ◌%◌, ◌≤◌, Bool, true, false, not, ◌&&◌, if◌then◌else◌, List, [], ◌∷◌, length, drop, refl, sym, ◌∙◌, ap, subst, arith}
+-- A datagram of a form that the receiver takes is a part of a VP8 frame.
+use Rattle.std.proofs.Common.{◌≡◌, ℕ, ◌+◌, ◌%◌, ◌≤◌, Bool, true, false, not, ◌&&◌, if◌then◌else◌, List, [], ◌∷◌, length, drop, refl, sym, ◌∙◌, ap, subst, arith}
 use Rattle.std.specs.Prelude.{Option, Some, None, Ok, nat_lt, slice_index, ◌==◌}
 use Rattle.std.specs.List.{list_any}
 use Rattle.std.specs.Result.{result_ok}
-use Rattle.std.proofs.lemmas.Bool.{ltb-false, eqb-true, eqb-false, eq-eqb, or_parts, true≢false}
+use Rattle.std.proofs.lemmas.Bool.{ltb-false, eqb-true, or_parts, true≢false}
 use Rattle.std.proofs.lemmas.Option.{none-some, same_Some, cond_some}
 use Rattle.vrx_rtp.specs.Packet.{Packet, read}
 use Rattle.vrx_core.specs.Part.{Yes, No, Part}
 use Rattle.vrx_core.specs.Descriptor.{bit, octet_if, ◌>>=◌, fields_behind, part_of, read_part}
-use Rattle.vrx_core.specs.Form.{begins_frame, begins_delta, reading_forms, is_form}
+use Rattle.vrx_core.specs.Form.{reading_forms, is_form}
+use Rattle.vrx_core.specs.Step.{begins_frame, is_key}
 use Rattle.vrx_core.specs.declared.settings.Settings.{Settings}
 
 -- a plain packet has twelve octets fewer in its payload
@@ -16,11 +17,10 @@ pub length-payload : (octets : List ℕ) (p : Packet) → read octets ≡ Some p
 length-payload (first ∷ second ∷ s1 ∷ s0 ∷ t3 ∷ t2 ∷ t1 ∷ t0 ∷ c3 ∷ c2 ∷ c1 ∷ c0 ∷ payload) p h = let payload_is = ap (λ (q : Packet). length q.payload) (cond_some _ _ p h).1 in omega arith
 length-payload octets p h = absurd (none-some p h)
 
--- what the bits of a payload say: no extension octets, and no delta frame begins
+-- what is said of a payload: it has a frame's octet behind the descriptor's first, and no extension octets
 pub record SaysPart (payload : List ℕ) : Type 0 where
   pub long : 2 ≤ length payload
   pub no_extension : bit 128 (slice_index payload 0) ≡ false
-  pub no_delta : begins_delta payload ≡ false
 
 -- a datagram that isn't refused reads as a packet of the stream, whose payload says so
 pub record IsTakenPacket (settings : Settings) (octets : List ℕ) : Type 0 where
@@ -43,14 +43,13 @@ module _ (settings : Settings) (octets : List ℕ) where
   from_reading (Some p) is short long h =
       let type = or_parts (not (p.pt == settings.media_type)) _ h in
       let source = or_parts (not (p.ssrc == settings.media_ssrc)) _ type.1 in
-      let extension = or_parts (bit 128 (slice_index p.payload 0)) _ source.1 in
-      let delta = or_parts (begins_delta p.payload) false extension.1 in
+      let extension = or_parts (bit 128 (slice_index p.payload 0)) false source.1 in
       record {
         packet = p;
         reads = is;
         type = eqb-true _ _ (not_refused _ type.0);
         source = eqb-true _ _ (not_refused _ source.0);
-        payload = record { long = (let len = length-payload octets p is in omega arith); no_extension = extension.0; no_delta = delta.0 };
+        payload = record { long = (let len = length-payload octets p is in omega arith); no_extension = extension.0 };
         size = short;
       }
 
@@ -61,11 +60,12 @@ module _ (settings : Settings) (octets : List ℕ) where
       let long = or_parts (nat_lt (length octets) 14) _ size.1 in
       from_reading (read octets) refl (ltb-false 9216 (length octets) size.0) (ltb-false (length octets) 14 long.0) long.1
 
--- what a payload's part is: a start where it begins a frame, and then of a keyframe, and its body is what stands behind
--- the first octet
+-- what a payload's part is: a start where it begins a frame, and then key where the frame's first octet says so; it has
+-- no layers, and its body is what stands behind the first octet
 pub record SaysSo (payload : List ℕ) (part : Part) : Type 0 where
   pub start : part.start ≡ (if begins_frame payload then Yes else No)
-  pub key : begins_frame payload ≡ true → part.key ≡ true
+  pub key : part.key ≡ (begins_frame payload && is_key payload)
+  pub layers : part.layers ≡ None
   pub body : part.body ≡ drop 1 payload
 
 -- a payload is a VP8 part
@@ -78,7 +78,7 @@ pub record IsTakenPart (payload : List ℕ) : Type 0 where
 pub taken_part : (payload : List ℕ) → SaysPart payload → IsTakenPart payload
 taken_part [] says = absurd (omega (arith, says.long))
 taken_part (head ∷ []) says = absurd (omega (arith, says.long))
-taken_part (head ∷ behind ∷ body) says = record { part = part; reads = reads; says = record { start = refl; key = key; body = refl } } where
+taken_part (head ∷ behind ∷ body) says = record { part = part; reads = reads; says = record { start = refl; key = refl; layers = refl; body = refl } } where
   begins : Bool
   begins = begins_frame (head ∷ behind ∷ body)
 
@@ -87,16 +87,6 @@ taken_part (head ∷ behind ∷ body) says = record { part = part; reads = reads
 
   reads : read_part (head ∷ behind ∷ body) ≡ Ok part
   reads = ap (λ b. part_of (length (head ∷ behind ∷ body)) (octet_if b (behind ∷ body) >>= fields_behind head)) says.no_extension
-
-  even : bit 1 behind ≡ false → (behind % 2 == 0) ≡ true
-  even h = eq-eqb _ _ (let odd : behind / 1 % 2 ≡ 1 → ⊥ = eqb-false (behind / 1 % 2) 1 h in omega arith)
-
-  key_with : (b : Bool) → (b && bit 1 behind) ≡ false → b ≡ true → (b && (behind % 2 == 0)) ≡ true
-  key_with true delta begin = even delta
-  key_with false delta begin = absurd (true≢false (sym begin))
-
-  key : begins ≡ true → part.key ≡ true
-  key begin = key_with begins says.no_delta begin
 
 -- and each part that it reads as is so
 pub part_says : (payload : List ℕ) (part : Part) → SaysPart payload → read_part payload ≡ Ok part → SaysSo payload part

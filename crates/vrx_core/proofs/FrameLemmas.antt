@@ -1,13 +1,13 @@
 -- The runs among an honest sender's packets are its frames.
-use Rattle.std.proofs.Common.{◌≡◌, ◌↔◌, ℕ, zero, suc, ◌+◌, ◌-◌, ◌<◌, ◌≤◌, Bool, true, false, ◌||◌, if◌then◌else◌, List, [], ◌∷◌, map, length, slice_get, Contains, Option, Some, None, IsSomeAnd, is_some, Result, Ok, Err, refl, sym, ◌∙◌, ap, subst, arith}
+use Rattle.std.proofs.Common.{◌≡◌, ◌↔◌, ℕ, zero, suc, ◌+◌, ◌-◌, ◌<◌, ◌≤◌, Bool, true, ◌||◌, if◌then◌else◌, List, [], ◌∷◌, map, length, slice_get, Contains, Option, Some, None, IsSomeAnd, is_some, Result, Ok, Err, refl, sym, ◌∙◌, ap, subst, arith}
 use Rattle.std.specs.Prelude.{◌==◌}
 use Rattle.std.specs.List.{AllByRecursion, list_any}
-use Rattle.std.proofs.lemmas.Option.{none-some, same_Some}
+use Rattle.std.proofs.lemmas.Option.{same_Some}
 use Rattle.std.proofs.lemmas.Bool.{true≢false, ne_eqb}
 use Rattle.std.proofs.lemmas.List.{length-map}
 use Rattle.std.proofs.lemmas.List.Elements.{All-from_recursion, recursion_from_All}
 use Rattle.vrx_rtp.specs.Packet.{Packet, read}
-use Rattle.vrx_core.specs.Part.{Start, Yes, No, Layers, Part, JoinFault}
+use Rattle.vrx_core.specs.Part.{Yes, No, Part, JoinFault}
 use Rattle.vrx_core.specs.Meaning.{Meaning}
 use Rattle.vrx_core.specs.Window.{Content, Packets, at, is_available}
 use Rattle.vrx_core.specs.Window as window
@@ -16,7 +16,7 @@ use Rattle.vrx_core.specs.IsRun.{IsPiece, ArePieces, IsRun}
 use Rattle.vrx_core.specs.Sender.{SentFrame, SentPacket, Media, Sender}
 use Rattle.vrx_core.specs.WireForm.{content_of}
 use Rattle.vrx_core.specs.HonestSender.{Carried, IsPart, AreParts, Travels, HonestSender}
-use Rattle.vrx_core.specs.Ready.{IsNumber, HasNumbers}
+use Rattle.vrx_core.specs.Ready.{IsNumber}
 use Rattle.vrx_core.specs.HonestRuns.{IsFrameRun}
 use Rattle.vrx_core.specs.declared.settings.Settings.{Settings}
 use Rattle.vrx_core.proofs.RunLemmas.{list_any-from, list_any-to, same_test}
@@ -61,11 +61,6 @@ start_later m = ap (λ b. if b then Yes else No) (ne_eqb (suc m) 0 (λ same. abs
 any_map : {X Y : Type 0} (f : X → Y) (test : Y → Bool) (xs : List X) → list_any test (map f xs) ≡ list_any (λ x. test (f x)) xs
 any_map f test [] = refl
 any_map f test (x ∷ xs) = ap (λ b. test (f x) || b) (any_map f test xs)
-
--- the layers of a frame are those of its first part
-abbrev first_layers : List Carried → Option Layers
-first_layers [] = None
-first_layers (c ∷ cs) = c.part.layers
 
 module _ (settings : Settings) (codec : Meaning) (sender : Sender) (js : List ℕ) (packets : Packets) (kept : AreKept sender js packets) where
   -- what is available at the number of a packet is its text
@@ -155,6 +150,8 @@ module _ (settings : Settings) (codec : Meaning) (sender : Sender) (js : List �
           };
           ts = sym ts.0 ∙ ap (λ (x : Packet). x.ts) packet_is ∙ s.part.timestamp;
           key = same_key run s.frame r.pieces (honest.parts s.f) (ap said is ∙ same) r.key t.key;
+          layers = subst (λ xs. IsSomeAnd (slice_get xs 0) (λ q. run.layers ≡ q.part.layers)) is r.layers
+              ∙ ap (λ (x : Part). x.layers) (piece-part s.f s.frame (size settings codec sender honest s.f) s.k i run.first s.carried p numbered s.part pieces.0) ∙ s.part.layers;
           bytes = same_ok {E = JoinFault} run.bytes s.frame.bytes (sym r.joins ∙ ap codec.join (ap said is ∙ same) ∙ t.joins);
         }
 
@@ -232,14 +229,14 @@ module _ (settings : Settings) (codec : Meaning) (sender : Sender) (js : List �
           let no : c.part.start ≡ No = parts.0.start ∙ ap (λ (x : ℕ). if x == 0 then Yes else No) is ∙ start_later m in
           (λ s. absurd (true≢false (sym s ∙ ap (λ x. begins x behind) no)), λ same. absurd (omega arith))
 
-    -- the first of them has the layers of the first part
-    first_of : (n : ℕ) (cs : List Carried) → 0 < length cs → IsSomeAnd (slice_get (pieces_of n cs) 0) (λ p. first_layers cs ≡ p.part.layers)
-    first_of n [] some = absurd (omega arith)
-    first_of n (c ∷ cs) some = refl
+    -- the first of them has no layers
+    first_plain : (k i n : ℕ) (cs : List Carried) → AreParts settings codec sender f frame count k i cs → 0 < length cs → IsSomeAnd (slice_get (pieces_of n cs) 0) (λ p. None ≡ p.part.layers)
+    first_plain k i n [] parts some = absurd (omega arith)
+    first_plain k i n (c ∷ cs) parts some = sym parts.0.layers
 
   -- the run of a frame from a number on
   abbrev pub frame_run : SentFrame → ℕ → List Carried → Run
-  frame_run frame first parts = record { first = first; last = first + length parts - 1; ts = frame.ts; key = frame.key; layers = first_layers parts; bytes = frame.bytes }
+  frame_run frame first parts = record { first = first; last = first + length parts - 1; ts = frame.ts; key = frame.key; layers = None; bytes = frame.bytes }
 
   module _ (honest : HonestSender settings codec sender) where
     -- a frame each of whose packets is available is a run
@@ -263,6 +260,6 @@ module _ (settings : Settings) (codec : Meaning) (sender : Sender) (js : List �
             λ h. let c = t.key.0 h in list_any-from (λ p. p.part.key) (pieces_of first cs) (agree ∙ list_any-to (λ c. c.part.key) cs c.0 c.1 c.2),
             λ p. t.key.1 (list_any-from (λ c. c.part.key) cs (sym agree ∙ list_any-to (λ q. q.part.key) (pieces_of first cs) p.0 p.1 p.2)),
           );
-          layers = first_of f frame (length cs) first cs some;
+          layers = first_plain f frame (length cs) 0 (honest.place f) first cs t.each some;
           joins = ap codec.join same ∙ t.joins;
         }

@@ -14,9 +14,9 @@ use Rattle.vrx_core.specs.Window.{Content, Media, Packets, at, is_available, in_
 use Rattle.vrx_core.specs.declared.settings.Settings.{Settings}
 use Rattle.vrx_core.specs.declared.reply.Frame.{Frame}
 use Rattle.vrx_rtp.specs.Packet.{Packet}
-use Rattle.vrx_core.specs.Step.{AreTaken, packet_in, standing_length, next_run, body_in, last_of, joined}
+use Rattle.vrx_core.specs.Step.{AreTaken, packet_in, key_in, due_length, next_run, body_in, last_of, joined}
 use Rattle.vrx_core.specs.Run.{◌>>=◌}
-use Rattle.vrx_core.proofs.WholeLemmas.{Above, Rising, rising_from, at_here, at_later}
+use Rattle.vrx_core.proofs.EntryLemmas.{Above, Rising, rising_from, at_here, at_later}
 
 -- the packet at an index, and those behind it
 dropped : (held : List Held) (i : ℕ) (p : Held) → i < length held → p ≡ get_or held i p → drop i held ≡ p ∷ drop (i + 1) held
@@ -137,15 +137,15 @@ taken-later settings (suc i) (p ∷ held) taken = taken-later settings i held ta
 pub taken-next : (settings : Settings) (i : ℕ) (held : List Held) → AreTaken settings (entries (drop i held)) → AreTaken settings (entries (drop (i + 1) held))
 taken-next settings i held taken = rw add-one (taken-later settings i held taken)
 
--- where no run that stands begins at a place, the next run is that of the packets behind it
-next-later : (pulled : Option ℕ) (i : ℕ) (held : List Held) → standing_length pulled (entries (drop i held)) ≡ None → next_run pulled (entries (drop (suc i) held)) ≡ next_run pulled (entries (drop i held))
+-- where no run that is due begins at a place, the next run is that of the packets behind it
+next-later : (pulled : Option ℕ) (i : ℕ) (held : List Held) → due_length pulled (entries (drop i held)) ≡ None → next_run pulled (entries (drop (suc i) held)) ≡ next_run pulled (entries (drop i held))
 next-later pulled zero [] none = refl
 next-later pulled zero (p ∷ held) none = sym (ap (λ o. option_or (option_map (λ n. take n (entries (p ∷ held))) o) (next_run pulled (entries held))) none)
 next-later pulled (suc i) [] none = refl
 next-later pulled (suc i) (p ∷ held) none = next-later pulled i held none
 
 -- the same by the number of the next place
-pub next-behind : (pulled : Option ℕ) (i : ℕ) (held : List Held) → standing_length pulled (entries (drop i held)) ≡ None → next_run pulled (entries (drop (i + 1) held)) ≡ next_run pulled (entries (drop i held))
+pub next-behind : (pulled : Option ℕ) (i : ℕ) (held : List Held) → due_length pulled (entries (drop i held)) ≡ None → next_run pulled (entries (drop (i + 1) held)) ≡ next_run pulled (entries (drop i held))
 next-behind pulled i held none = rw add-one (next-later pulled i held none)
 
 -- the number of the last packet
@@ -154,13 +154,15 @@ last-held p [] d = refl
 last-held p (q ∷ held) d = last-held q held d
 
 -- what the packets of a run join to, from its first and last packet and its octets
-pub joined-held : (run : List Held) (a b d : Held) (packet : Packet) (bytes : List ℕ) → 0 < length run → packet_in (entry_of (get_or run 0 a)) ≡ Some packet → bytes ≡ flat_map body_in (entries run)
-    → joined (entries run) ≡ Some (record { first = (get_or run 0 b).number; last = (get_or run (length run - 1) d).number; ts = packet.ts; key = true; bytes = bytes })
-joined-held [] a b d packet bytes some reads is = absurd (omega arith)
-joined-held (p ∷ held) a b d packet bytes some reads is =
+pub joined-held : (run : List Held) (a b d k : Held) (packet : Packet) (key : Bool) (bytes : List ℕ) → 0 < length run → packet_in (entry_of (get_or run 0 a)) ≡ Some packet → key ≡ key_in (entry_of (get_or run 0 k)) → bytes ≡ flat_map body_in (entries run)
+    → joined (entries run) ≡ Some (record { first = (get_or run 0 b).number; last = (get_or run (length run - 1) d).number; ts = packet.ts; key = key; bytes = bytes })
+joined-held [] a b d k packet key bytes some reads says is = absurd (omega arith)
+joined-held (p ∷ held) a b d k packet key bytes some reads says is =
     let size : length held ≡ length (p ∷ held) - 1 = omega arith in
-    ap (λ o. o >>= λ q. Some (made (last_of (entry_of p) (entries held)) q.ts (flat_map body_in (entries (p ∷ held))))) reads
-    ∙ ap (λ n. Some (made n packet.ts (flat_map body_in (entries (p ∷ held))))) (last-held p held d ∙ ap (λ k. (get_or (p ∷ held) k d).number) size)
-    ∙ ap (λ bs. Some (made (get_or (p ∷ held) (length (p ∷ held) - 1) d).number packet.ts bs)) (sym is) where
-      made : (last ts : ℕ) (bytes : List ℕ) → Frame
-      made last ts bs = record { first = p.number; last = last; ts = ts; key = true; bytes = bs }
+    let said : Bool = key_in (entry_of p) in
+    ap (λ o. o >>= λ q. Some (made (last_of (entry_of p) (entries held)) q.ts said (flat_map body_in (entries (p ∷ held))))) reads
+    ∙ ap (λ n. Some (made n packet.ts said (flat_map body_in (entries (p ∷ held))))) (last-held p held d ∙ ap (λ j. (get_or (p ∷ held) j d).number) size)
+    ∙ ap (λ b. Some (made (get_or (p ∷ held) (length (p ∷ held) - 1) d).number packet.ts b (flat_map body_in (entries (p ∷ held))))) (sym says)
+    ∙ ap (λ bs. Some (made (get_or (p ∷ held) (length (p ∷ held) - 1) d).number packet.ts key bs)) (sym is) where
+      made : (last ts : ℕ) (key : Bool) (bytes : List ℕ) → Frame
+      made last ts is_key bs = record { first = p.number; last = last; ts = ts; key = is_key; bytes = bs }

@@ -1,5 +1,5 @@
 -- What holds of the machine's state after each event of an honest call.
-use Rattle.std.proofs.Common.{◌≡◌, ℕ, suc, ◌+◌, ◌<◌, ◌≤◌, true, if◌then◌else◌, List, [], ◌∷◌, length, slice_get, Option, Some, None, IfSome, IsSomeAnd, is_ok, Result, Ok, Err, refl, sym, ◌∙◌, ap, subst, arith}
+use Rattle.std.proofs.Common.{◌≡◌, ℕ, ◌+◌, ◌<◌, ◌≤◌, true, if◌then◌else◌, List, [], ◌∷◌, slice_get, Contains, inl, inr, Option, Some, None, IfSome, IsSomeAnd, is_ok, Result, Ok, Err, refl, sym, ◌∙◌, ap, subst, arith}
 use Rattle.std.proofs.lemmas.Bool.{lt-ltb, ltb-true}
 use Rattle.std.proofs.lemmas.Option.{slice_get_within}
 use Rattle.vrx_num.specs.Extended.{extended}
@@ -15,14 +15,16 @@ use Rattle.vrx_core.specs.Sender.{SentFrame, Sender, wire_of}
 use Rattle.vrx_core.specs.WireForm.{content_of}
 use Rattle.vrx_core.specs.HonestSender.{Travels, HonestSender}
 use Rattle.vrx_core.specs.HonestNetwork.{IsNear}
-use Rattle.vrx_core.specs.Ready.{IsNumber}
+use Rattle.vrx_core.specs.Chain.{InChain}
+use Rattle.vrx_core.specs.Ready.{IsNumber, HasNumbers}
 use Rattle.vrx_core.specs.declared.settings.Settings.{Settings}
 use Rattle.vrx_core.specs.declared.reply.Reason.{Reason}
 use Rattle.vrx_core.specs.declared.reply.Reason.TheVariants.{Form}
 use Rattle.vrx_core.specs.declared.reply.Frame.{Frame}
 use Rattle.vrx_core.proofs.NumberLemmas.{IsNewestOf, IsNumber-grown, IsNumber-below, taken-number, taken-newest}
 use Rattle.vrx_core.proofs.KeptLemmas.{IsKept, AreKept, placed-kept, grown-kept}
-use Rattle.vrx_core.proofs.PartLemmas.{frame_travels, frame_upto, size}
+use Rattle.vrx_core.proofs.MemberLemmas.{Contains-either, Contains-empty, Contains-tail}
+use Rattle.vrx_core.proofs.PartLemmas.{frame_travels, frame_upto, one_span, size}
 use Rattle.vrx_core.proofs.TakenLemmas.{Brings, verdict_taken, verdict_form, number_of-text}
 
 -- a number beyond the last one pulled, as the test says it
@@ -36,48 +38,73 @@ stands_to None run h = tt
 stands_to (Some last) run h = ltb-true last run.first h
 
 module _ (settings : Settings) (codec : Meaning) (sender : Sender) (honest : HonestSender settings codec sender) where
-  -- the last frame pulled is the sender's frame before this bound, and this is the number of its last packet
-  pub record IsLast (js : List ℕ) (last bound : ℕ) : Type 0 where
-    pub f : ℕ
-    pub frame : SentFrame
-    pub sent : slice_get sender.frames f ≡ Some frame
-    pub to : ℕ
-    pub numbered : IsNumber sender js to last
-    pub ends : to + 1 ≡ honest.place f + size settings codec sender honest f
-    pub bound_is : bound ≡ f + 1
+  -- a frame pulled is the sender's frame f
+  pub record IsPulled (js : List ℕ) (f : ℕ) (frame : Frame) : Type 0 where
+    pub sent : SentFrame
+    pub is : slice_get sender.frames f ≡ Some sent
+    pub numbered : HasNumbers sender js f frame.first frame.last
 
-  -- all frames pulled are the sender's of places below this bound, and the last is that of the place before it
-  abbrev pub IsPulledBelow : List ℕ → Option ℕ → ℕ → Type 0
-  IsPulledBelow js None bound = bound ≡ 0
-  IsPulledBelow js (Some last) bound = IsLast js last bound
+  -- the frames pulled are the sender's of these places, both the newest first
+  abbrev pub ArePulled : List ℕ → List ℕ → List Frame → Type 0
+  ArePulled js [] [] = Unit {0}
+  ArePulled js (f ∷ fs) (frame ∷ frames) = IsPulled js f frame × ArePulled js fs frames
+  ArePulled js [] (frame ∷ frames) = ⊥
+  ArePulled js (f ∷ fs) [] = ⊥
 
-  -- the newest number, the packets kept and the last frame pulled are the sender's, after these packets were taken
-  pub record Holds (s : Snapshot) (js : List ℕ) (bound : ℕ) : Type 0 where
+  -- with a frame its chain is among these
+  abbrev pub Closed : List ℕ → Type 0
+  Closed fs = (f g : ℕ) → Contains fs f → InChain sender f g → Contains fs g
+
+  -- the newest number, the packets kept and the frames pulled are the sender's, after these packets were taken; the frames
+  -- pulled have these places, and are closed under their chains
+  pub record Holds (s : Snapshot) (js fs : List ℕ) : Type 0 where
     pub newest : IsNewestOf sender js s.newest
     pub kept : AreKept sender js s.packets
-    pub pulled : IsPulledBelow js (last_pulled s.pulled) bound
+    pub pulled : ArePulled js fs s.pulled
+    pub closed : Closed fs
 
-  -- the last frame pulled stays the sender's when one more packet is taken
-  pulled_grown : (i : ℕ) (js : List ℕ) (o : Option ℕ) (bound : ℕ) → IsPulledBelow js o bound → IsPulledBelow (i ∷ js) o bound
-  pulled_grown i js None bound p = p
-  pulled_grown i js (Some last) bound p = record { f = p.f; frame = p.frame; sent = p.sent; to = p.to; numbered = IsNumber-grown sender i js p.to last p.numbered; ends = p.ends; bound_is = p.bound_is }
+  -- the frames pulled stay the sender's when one more packet is taken
+  pulled_grown : (i : ℕ) (js fs : List ℕ) (frames : List Frame) → ArePulled js fs frames → ArePulled (i ∷ js) fs frames
+  pulled_grown i js [] [] p = tt
+  pulled_grown i js [] (frame ∷ frames) p = absurd p
+  pulled_grown i js (f ∷ fs) [] p = absurd p
+  pulled_grown i js (f ∷ fs) (frame ∷ frames) p =
+      let n : HasNumbers sender js f frame.first frame.last = p.0.numbered in (
+        record {
+          sent = p.0.sent;
+          is = p.0.is;
+          numbered = record { from = n.from; to = n.to; spans = n.spans; first_is = IsNumber-grown sender i js n.from frame.first n.first_is; last_is = IsNumber-grown sender i js n.to frame.last n.last_is };
+        },
+        pulled_grown i js fs frames p.1,
+      )
 
-  -- a frame beyond the last frame pulled isn't below the bound
-  pub bound_upto : (js : List ℕ) (o : Option ℕ) (bound g : ℕ) (frame : SentFrame) (run : Run) → IsPulledBelow js o bound → slice_get sender.frames g ≡ Some frame → IsNumber sender js (honest.place g) run.first → stands o run ≡ true → bound ≤ g
-  bound_upto js None bound g frame run p is numbered beyond = omega arith
-  bound_upto js (Some last) bound g frame run p is numbered beyond =
-      let less : p.to < honest.place g = IsNumber-below sender js p.to (honest.place g) last run.first p.numbered numbered (ltb-true last run.first beyond) in
-      let ends : p.to + 1 ≡ honest.place p.f + size settings codec sender honest p.f = p.ends in
-      let upto : p.f ≤ g = frame_upto settings codec sender honest p.f g frame is (slice_get_within sender.frames p.f p.frame p.sent) (omega arith) in
-      let t : Travels settings codec sender p.f p.frame (honest.place p.f) (honest.parts p.f) = frame_travels settings codec sender honest p.f p.frame p.sent in
-      let some : 0 < size settings codec sender honest p.f = t.some in
-      let apart : p.f ≡ g → ⊥ = λ same. let place_is : honest.place p.f ≡ honest.place g = ap honest.place same in omega arith in
-      let bound_is : bound ≡ p.f + 1 = p.bound_is in
+  -- a frame whose first number lies beyond the last of another comes after it
+  pub frame_after : (js : List ℕ) (f g : ℕ) (old frame : SentFrame) (first last n : ℕ) → slice_get sender.frames f ≡ Some old → HasNumbers sender js f first last → slice_get sender.frames g ≡ Some frame → IsNumber sender js (honest.place g) n → last < n → f < g
+  frame_after js f g old frame first last n there numbered is place_is beyond =
+      let less : numbered.to < honest.place g = IsNumber-below sender js numbered.to (honest.place g) last n numbered.last_is place_is beyond in
+      let ends : numbered.to + 1 ≡ honest.place f + size settings codec sender honest f = (one_span settings codec sender honest f old numbered.from numbered.to there numbered.spans).1 in
+      let upto : f ≤ g = frame_upto settings codec sender honest f g frame is (slice_get_within sender.frames f old there) (omega arith) in
+      let t : Travels settings codec sender f old (honest.place f) (honest.parts f) = frame_travels settings codec sender honest f old there in
+      let some : 0 < size settings codec sender honest f = t.some in
+      let apart : f ≡ g → ⊥ = λ same. let place_is : honest.place f ≡ honest.place g = ap honest.place same in omega arith in
+      omega arith
+
+  -- the places from which a frame may come now
+  abbrev pub bound_of : List ℕ → ℕ
+  bound_of [] = 0
+  bound_of (f ∷ fs) = f + 1
+
+  -- a frame beyond the last frame pulled comes after it
+  pub bound_upto : (js fs : List ℕ) (frames : List Frame) (g : ℕ) (frame : SentFrame) (run : Run) → ArePulled js fs frames → slice_get sender.frames g ≡ Some frame → IsNumber sender js (honest.place g) run.first → stands (last_pulled frames) run ≡ true → bound_of fs ≤ g
+  bound_upto js [] frames g frame run p is numbered beyond = omega arith
+  bound_upto js (f ∷ fs) [] g frame run p is numbered beyond = absurd p
+  bound_upto js (f ∷ fs) (old ∷ frames) g frame run p is numbered beyond =
+      let less : f < g = frame_after js f g p.0.sent frame old.first old.last run.first p.0.is p.0.numbered is numbered (ltb-true old.last run.first beyond) in
       omega arith
 
   -- before the first event
-  pub opening-holds : Holds (latest []) [] 0
-  opening-holds = record { newest = refl; kept = tt; pulled = refl }
+  pub opening-holds : Holds (latest []) [] []
+  opening-holds = record { newest = refl; kept = tt; pulled = tt; closed = λ f g c way. absurd (Contains-empty f c) }
 
   -- the entry of a datagram that is taken
   taken-kept : (js : List ℕ) (i n : ℕ) (octets : List ℕ) (content : Content) → Brings settings sender i octets → content ≡ window.Media octets → IsNumber sender js i n → IsKept sender js (n, content)
@@ -87,21 +114,21 @@ module _ (settings : Settings) (codec : Meaning) (sender : Sender) (honest : Hon
     numbered = numbered;
   }
 
-  module _ (s : Snapshot) (js : List ℕ) (bound : ℕ) (h : Holds s js bound) (moment : ℕ) where
+  module _ (s : Snapshot) (js fs : List ℕ) (h : Holds s js fs) (moment : ℕ) where
     -- a refused datagram changes nothing of it
-    refused-holds : (reason : Reason) → Holds (after_datagram s moment (Err reason)) js bound
-    refused-holds reason = record { newest = h.newest; kept = h.kept; pulled = h.pulled }
+    refused-holds : (reason : Reason) → Holds (after_datagram s moment (Err reason)) js fs
+    refused-holds reason = record { newest = h.newest; kept = h.kept; pulled = h.pulled; closed = h.closed }
 
     -- octets of another form are refused
-    pub form-holds : (octets : List ℕ) → is_form settings octets ≡ true → Holds (after_datagram s moment (verdict settings s.newest s.packets octets)) js bound
-    form-holds octets form = subst (λ (r : Result (ℕ × Content) Reason). Holds (after_datagram s moment r) js bound) (sym (verdict_form settings s.newest s.packets octets form)) (refused-holds Form)
+    pub form-holds : (octets : List ℕ) → is_form settings octets ≡ true → Holds (after_datagram s moment (verdict settings s.newest s.packets octets)) js fs
+    form-holds octets form = subst (λ (r : Result (ℕ × Content) Reason). Holds (after_datagram s moment r) js fs) (sym (verdict_form settings s.newest s.packets octets form)) (refused-holds Form)
 
     -- the extended number of a sender's packet that is taken
     taken-extended : (i n : ℕ) (octets : List ℕ) → Brings settings sender i octets → number_of s.newest octets ≡ Some n → extended s.newest (wire_of sender i) ≡ Some n
     taken-extended i n octets b is = sym (number_of-text s.newest octets b.packet (wire_of sender i) b.reads b.number) ∙ is
 
     -- a sender's datagram that is near those taken, whatever the verdict
-    brought-holds : (i : ℕ) (octets : List ℕ) → Brings settings sender i octets → IsNear i js → (r : Result (ℕ × Content) Reason) → verdict settings s.newest s.packets octets ≡ r → Holds (after_datagram s moment r) (if is_ok r then i ∷ js else js) bound
+    brought-holds : (i : ℕ) (octets : List ℕ) → Brings settings sender i octets → IsNear i js → (r : Result (ℕ × Content) Reason) → verdict settings s.newest s.packets octets ≡ r → Holds (after_datagram s moment r) (if is_ok r then i ∷ js else js) fs
     brought-holds i octets b near (Err reason) is = refused-holds reason
     brought-holds i octets b near (Ok (n, content)) is =
         let took : (number_of s.newest octets ≡ Some n) × (content ≡ window.Media octets) = verdict_taken settings s.newest s.packets octets n content is in
@@ -111,17 +138,23 @@ module _ (settings : Settings) (codec : Meaning) (sender : Sender) (honest : Hon
           kept = placed-kept sender (i ∷ js) _ n content s.packets
               (taken-kept (i ∷ js) i n octets content b took.1 (taken-number sender js s.newest i n h.newest near number))
               (grown-kept sender js i s.packets h.kept);
-          pulled = pulled_grown i js (last_pulled s.pulled) bound h.pulled;
+          pulled = pulled_grown i js fs s.pulled h.pulled;
+          closed = h.closed;
         }
 
     -- a sender's datagram that is near those taken
-    pub datagram-holds : (i : ℕ) (octets : List ℕ) → Brings settings sender i octets → IsNear i js → Holds (after_datagram s moment (verdict settings s.newest s.packets octets)) (if is_ok (verdict settings s.newest s.packets octets) then i ∷ js else js) bound
+    pub datagram-holds : (i : ℕ) (octets : List ℕ) → Brings settings sender i octets → IsNear i js → Holds (after_datagram s moment (verdict settings s.newest s.packets octets)) (if is_ok (verdict settings s.newest s.packets octets) then i ∷ js else js) fs
     datagram-holds i octets b near = brought-holds i octets b near (verdict settings s.newest s.packets octets) refl
 
     -- a pull that gives nothing
-    pub none-holds : Holds (after_pull s moment None) js bound
-    none-holds = record { newest = h.newest; kept = h.kept; pulled = h.pulled }
+    pub none-holds : Holds (after_pull s moment None) js fs
+    none-holds = record { newest = h.newest; kept = h.kept; pulled = h.pulled; closed = h.closed }
 
-    -- a pull that gives a frame
-    pub frame-holds : (frame : Frame) (after : ℕ) → IsLast js frame.last after → Holds (after_pull s moment (Some frame)) js after
-    frame-holds frame after is = record { newest = h.newest; kept = h.kept; pulled = is }
+    -- a pull that gives a frame, whose chain was pulled
+    pub frame-holds : (frame : Frame) (f : ℕ) → IsPulled js f frame → ((g : ℕ) → InChain sender f g → Contains fs g) → Holds (after_pull s moment (Some frame)) js (f ∷ fs)
+    frame-holds frame f is chain = record { newest = h.newest; kept = h.kept; pulled = (is, h.pulled); closed = closed } where
+      closed : Closed (f ∷ fs)
+      closed k g there way = elim (Contains-either f fs k there) [
+        | inl same ↦ Contains-tail f fs g (chain g (subst (λ (x : ℕ). InChain sender x g) (sym same) way))
+        | inr later ↦ Contains-tail f fs g (h.closed k g later way)
+      ]

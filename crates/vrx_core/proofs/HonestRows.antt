@@ -1,19 +1,22 @@
 -- An honest sender and an honest network, worked by hand: the premises of the law can be met.
-use Rattle.std.proofs.Common.{◌≢◌, ◌≤◌, ◌<◌, ℕ, zero, suc, ◌+◌, true, false, List, [], ◌∷◌, length, None, IfSome, slice_get, refl, arith}
+use Rattle.std.proofs.Common.{◌≢◌, ◌≤◌, ◌<◌, ◌≡◌, ◌∙◌, ap, inl, inr, Contains, All, ℕ, zero, suc, ◌+◌, true, false, List, [], ◌∷◌, length, None, IfSome, slice_get, refl, arith}
+use Rattle.std.proofs.lemmas.List.Elements.{All-nil, All-from_recursion}
 use Rattle.vrx_core.specs.Descriptor.{vp8}
 use Rattle.vrx_core.specs.Machine.{snapshots}
 use Rattle.vrx_core.specs.Sender.{SentFrame, Media, Sender}
 use Rattle.vrx_core.specs.Part.{Yes, No}
+use Rattle.vrx_core.specs.Chain.{InChain}
 use Rattle.vrx_core.specs.HonestSender.{Carried, IsPart, Travels, HonestSender}
 use Rattle.vrx_core.specs.HonestNetwork.{Origin, FromSender, Elsewhere, HonestNetwork, taken}
 use Rattle.vrx_core.specs.declared.settings.Settings.{Settings}
 use Rattle.vrx_core.specs.declared.event.Event.{Event}
 use Rattle.vrx_core.specs.declared.event.Event.TheVariants.{Datagram, Pull}
+use Rattle.vrx_core.proofs.MemberLemmas.{Contains-either, Contains-empty}
 
 abbrev settings : Settings
 settings = record { media_ssrc = 10; media_type = 96; from_ssrc = 11 }
 
--- a keyframe of two packets, of the sequence numbers 65535 and 0, and a keyframe of one packet
+-- a keyframe of two packets, of the sequence numbers 65535 and 0, and a frame of one packet that refers to it
 abbrev first_text : List ℕ
 first_text = 128 ∷ 96 ∷ 255 ∷ 255 ∷ 0 ∷ 0 ∷ 0 ∷ 0 ∷ 0 ∷ 0 ∷ 0 ∷ 10 ∷ 16 ∷ 0 ∷ 170 ∷ []
 
@@ -21,13 +24,13 @@ abbrev second_text : List ℕ
 second_text = 128 ∷ 224 ∷ 0 ∷ 0 ∷ 0 ∷ 0 ∷ 0 ∷ 0 ∷ 0 ∷ 0 ∷ 0 ∷ 10 ∷ 0 ∷ 187 ∷ []
 
 abbrev third_text : List ℕ
-third_text = 128 ∷ 224 ∷ 0 ∷ 1 ∷ 0 ∷ 0 ∷ 0 ∷ 9 ∷ 0 ∷ 0 ∷ 0 ∷ 10 ∷ 16 ∷ 0 ∷ 204 ∷ []
+third_text = 128 ∷ 224 ∷ 0 ∷ 1 ∷ 0 ∷ 0 ∷ 0 ∷ 9 ∷ 0 ∷ 0 ∷ 0 ∷ 10 ∷ 16 ∷ 1 ∷ 204 ∷ []
 
 abbrev first_frame : SentFrame
-first_frame = record { bytes = 0 ∷ 170 ∷ 187 ∷ []; key = true; ts = 0 }
+first_frame = record { bytes = 0 ∷ 170 ∷ 187 ∷ []; key = true; ts = 0; references = [] }
 
 abbrev second_frame : SentFrame
-second_frame = record { bytes = 0 ∷ 204 ∷ []; key = true; ts = 9 }
+second_frame = record { bytes = 1 ∷ 204 ∷ []; key = false; ts = 9; references = 0 ∷ [] }
 
 abbrev sender : Sender
 sender = record { first_wire = 65535; frames = first_frame ∷ second_frame ∷ []; packets = Media 0 0 first_text ∷ Media 0 1 second_text ∷ Media 1 0 third_text ∷ [] }
@@ -50,8 +53,8 @@ second_part = record {
 abbrev third_part : Carried
 third_part = record {
   text = third_text;
-  packet = record { marker = true; pt = 96; seq = 1; ts = 9; ssrc = 10; payload = 16 ∷ 0 ∷ 204 ∷ [] };
-  part = record { start = Yes; key = true; layers = None; body = 0 ∷ 204 ∷ [] };
+  packet = record { marker = true; pt = 96; seq = 1; ts = 9; ssrc = 10; payload = 16 ∷ 1 ∷ 204 ∷ [] };
+  part = record { start = Yes; key = false; layers = None; body = 1 ∷ 204 ∷ [] };
 }
 
 -- each packet is a part of its frame
@@ -62,6 +65,7 @@ first_is = record {
   timestamp = refl;
   marker = (λ e. cc, λ e. absurd (omega arith));
   start = refl;
+  layers = refl;
 }
 
 second_is : IsPart settings vp8 sender 0 first_frame 2 1 1 second_part
@@ -71,6 +75,7 @@ second_is = record {
   timestamp = refl;
   marker = (λ e. refl, λ e. refl);
   start = refl;
+  layers = refl;
 }
 
 third_is : IsPart settings vp8 sender 1 second_frame 1 0 2 third_part
@@ -80,6 +85,7 @@ third_is = record {
   timestamp = refl;
   marker = (λ e. refl, λ e. refl);
   start = refl;
+  layers = refl;
 }
 
 -- each frame travels
@@ -90,8 +96,14 @@ first_travels = record {
   each = (first_is, (second_is, tt));
   joins = refl;
   key = (λ e. (first_part, (0, omega arith, refl), refl), λ e. refl);
-  only_key = refl;
 }
+
+-- no part of it says a keyframe
+no_key : (c : Carried) → Contains (third_part ∷ []) c → c.part.key ≡ true → second_frame.key ≡ true
+no_key c there key = elim (Contains-either third_part [] c there) [
+  | inl same ↦ ap (λ (x : Carried). x.part.key) same ∙ key
+  | inr later ↦ absurd (Contains-empty c later)
+]
 
 second_travels : Travels settings vp8 sender 1 second_frame 2 (third_part ∷ [])
 unfolding third_is
@@ -99,8 +111,7 @@ second_travels = record {
   some = omega arith;
   each = (third_is, tt);
   joins = refl;
-  key = (λ e. (third_part, (0, omega arith, refl), refl), λ e. refl);
-  only_key = refl;
+  key = (λ e. absurd (cc), λ p. no_key p.0 p.1 p.2);
 }
 
 -- the places and the parts of the frames
@@ -123,6 +134,7 @@ sender-honest = record {
   in_order = order;
   no_other = others;
   from_key = refl;
+  references = elim [ zero ↦ none | suc f ↦ chains f ];
   apart = elim [ zero ↦ λ e. omega arith | suc f ↦ last f ];
 } where
   travels : (f : ℕ) → IfSome (slice_get sender.frames (suc f)) (λ frame. Travels settings vp8 sender (suc f) frame (place (suc f)) (parts (suc f)))
@@ -138,6 +150,13 @@ sender-honest = record {
   others zero within = (0, omega arith, omega arith, omega arith)
   others (suc zero) within = (0, omega arith, omega arith, omega arith)
   others (suc (suc i)) within = (1, omega arith, omega arith, omega arith)
+
+  none : All (λ g. InChain sender 0 g) []
+  none = All-nil (λ g. InChain sender 0 g)
+
+  chains : (f : ℕ) → IfSome (slice_get sender.frames (suc f)) (λ frame. All (λ g. InChain sender (suc f) g) frame.references)
+  chains zero = All-from_recursion (λ g. InChain sender 1 g) (0 ∷ []) (([], (refl, refl)), tt)
+  chains (suc f) = tt
 
   last : (f : ℕ) → IfSome (slice_get sender.frames (suc f)) (λ frame. IfSome (slice_get sender.frames (suc f + 1)) (λ after. frame.ts ≢ after.ts))
   last zero = tt

@@ -1,5 +1,5 @@
 -- The runs of an honest call are the sender's frames.
-use Rattle.std.proofs.Common.{◌≡◌, ℕ, List, [], ◌∷◌}
+use Rattle.std.proofs.Common.{ℕ, List, [], ◌∷◌}
 use Rattle.vrx_core.specs.Meaning.{Meaning}
 use Rattle.vrx_core.specs.Machine.{latest, snapshots}
 use Rattle.vrx_core.specs.Sender.{Sender}
@@ -9,27 +9,28 @@ use Rattle.vrx_core.specs.HonestRuns.{RunsRightly, RunsRightlyFrom, HonestRunsHo
 use Rattle.vrx_core.specs.declared.settings.Settings.{Settings}
 use Rattle.vrx_core.specs.declared.event.Event.{Event}
 use Rattle.vrx_core.proofs.HoldsLemmas.{Holds}
-use Rattle.vrx_core.proofs.HonestLemmas.{Step, IsRunOf, step, first_holds, frame_is, complete_run}
+use Rattle.vrx_core.proofs.HonestLemmas.{Step, step, first_holds}
+use Rattle.vrx_core.proofs.ReadyLemmas.{IsRunOf, frame_is, complete_run}
 
 module _ (settings : Settings) (codec : Meaning) (sender : Sender) (honest : HonestSender settings codec sender) where
   -- the runs after a history
-  runs_rightly : (h : List Event) (origins : List Origin) (bound : ℕ) → Holds settings codec sender honest (latest (snapshots settings codec h)) (taken settings codec h origins) bound → RunsRightly settings codec sender h origins
-  runs_rightly h origins bound holds = record {
-    frames = λ run stands. frame_is settings codec sender honest h origins bound holds run stands.0;
+  runs_rightly : (h : List Event) (origins : List Origin) (fs : List ℕ) → Holds settings codec sender honest (latest (snapshots settings codec h)) (taken settings codec h origins) fs → RunsRightly settings codec sender h origins
+  runs_rightly h origins fs holds = record {
+    frames = λ run stands. frame_is settings codec sender honest h origins fs holds run stands.0;
     runs = λ f complete.
-        let r : IsRunOf settings codec sender honest h origins bound holds f complete.first = complete_run settings codec sender honest h origins bound holds f complete in
+        let r : IsRunOf settings codec sender honest h origins fs holds f complete.first = complete_run settings codec sender honest h origins fs holds f complete in
         (r.run, (r.there, r.beyond), r.is_frame);
   }
 
   -- and after each event of the rest of an honest call
-  runs_from : (events : List Event) (h : List Event) (origins later : List Origin) (bound : ℕ) → Holds settings codec sender honest (latest (snapshots settings codec h)) (taken settings codec h origins) bound → HonestNetwork settings codec sender h origins events later → RunsRightlyFrom settings codec sender h origins events later
-  runs_from [] h origins [] bound holds network = runs_rightly h origins bound holds
-  runs_from [] h origins (o ∷ os) bound holds network = absurd network
-  runs_from (e ∷ es) h origins [] bound holds network = absurd network
-  runs_from (e ∷ es) h origins (o ∷ os) bound holds network =
-      let s : Step settings codec sender honest h origins bound e o = step settings codec sender honest h origins bound holds e o network.0 in
-      (runs_rightly h origins bound holds, runs_from es (e ∷ h) (o ∷ origins) os s.after s.holds network.1)
+  runs_from : (events : List Event) (h : List Event) (origins later : List Origin) (fs : List ℕ) → Holds settings codec sender honest (latest (snapshots settings codec h)) (taken settings codec h origins) fs → HonestNetwork settings codec sender h origins events later → RunsRightlyFrom settings codec sender h origins events later
+  runs_from [] h origins [] fs holds network = runs_rightly h origins fs holds
+  runs_from [] h origins (o ∷ os) fs holds network = absurd network
+  runs_from (e ∷ es) h origins [] fs holds network = absurd network
+  runs_from (e ∷ es) h origins (o ∷ os) fs holds network =
+      let s : Step settings codec sender honest h origins fs e o = step settings codec sender honest h origins fs holds e o network.0 in
+      (runs_rightly h origins fs holds, runs_from es (e ∷ h) (o ∷ origins) os s.after s.holds network.1)
 
 -- in every honest call the runs are the sender's frames
 pub honest_runs : HonestRunsHolds
-honest_runs settings codec sender events origins honest network = runs_from settings codec sender honest events [] [] origins 0 (first_holds settings codec sender honest) network
+honest_runs settings codec sender events origins honest network = runs_from settings codec sender honest events [] [] origins [] (first_holds settings codec sender honest) network

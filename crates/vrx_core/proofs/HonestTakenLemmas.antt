@@ -24,13 +24,14 @@ use Rattle.vrx_core.specs.declared.reply.Frame.{Frame}
 use Rattle.vrx_core.proofs.NumberLemmas.{IsNewestOf, taken-number, taken-newest, wire_below, is_number-extends}
 use Rattle.vrx_core.proofs.KeptLemmas.{AreKept, kept-there}
 use Rattle.vrx_core.proofs.TakenLemmas.{Brings, brings, number_of-text, verdict_taken, verdict_open, verdict_take, verdict_form}
-use Rattle.vrx_core.proofs.KeepsLemmas.{Keeps, Contains-none, greatest-upto, near-number, number-near, one-place, open-newest, placed-keeps}
+use Rattle.vrx_core.proofs.MemberLemmas.{Contains-empty}
+use Rattle.vrx_core.proofs.KeepsLemmas.{Keeps, greatest-upto, near-number, number-near, one-place, open-newest, placed-keeps}
 use Rattle.vrx_core.proofs.HoldsLemmas.{Holds}
 use Rattle.vrx_core.proofs.HonestLemmas.{Step, step, first_holds}
 
 -- a list of which nothing is available
 nothing : (sender : Sender) (packets : Packets) (n : ℕ) → Keeps sender [] packets → is_available n packets ≡ false
-nothing sender packets n keeps = false_from_ne_true (is_available n packets) (λ h. Contains-none (keeps.from n h).0 (keeps.from n h).1)
+nothing sender packets n keeps = false_from_ne_true (is_available n packets) (λ h. Contains-empty (keeps.from n h).0 (keeps.from n h).1)
 
 -- an Ok has a value
 ok_value : (r : Result (ℕ × Content) Reason) → is_ok r ≡ true → (x : ℕ × Content) × (r ≡ Ok x)
@@ -115,7 +116,7 @@ available_keeps sender js packets i n keeps is h =
 
 -- a packet to keep has a number, which is available
 keeps_available : (sender : Sender) (js : List ℕ) (newest : Option ℕ) (packets : Packets) (i : ℕ) → IsNewestOf sender js newest → Keeps sender js packets → IsToKeep i js → (n : ℕ) × IsNumber sender js i n × (is_available n packets ≡ true)
-keeps_available sender [] newest packets i is keeps to_keep = absurd (Contains-none i to_keep.0)
+keeps_available sender [] newest packets i is keeps to_keep = absurd (Contains-empty i to_keep.0)
 keeps_available sender (j ∷ js) newest packets i is keeps to_keep =
     let upto : i ≤ greatest (j ∷ js) = greatest-upto (j ∷ js) i to_keep.0 in
     let e : (n : ℕ) × IsNumber sender (j ∷ js) i n × Extends is.0 (wire_of sender i) n = is_number-extends sender j js is.0 i is.2 is.3 (omega arith) to_keep.1 in
@@ -189,12 +190,12 @@ first_keeps settings codec sender = record { from = λ n h. absurd (cc); all = �
 
 module _ (settings : Settings) (codec : Meaning) (sender : Sender) (honest : HonestSender settings codec sender) where
   -- the rest of an honest call takes and keeps rightly
-  takes_from : (events : List Event) (h : List Event) (origins later : List Origin) (bound : ℕ) → Holds settings codec sender honest (latest (snapshots settings codec h)) (taken settings codec h origins) bound → Keeps sender (taken settings codec h origins) (latest (snapshots settings codec h)).packets → HonestNetwork settings codec sender h origins events later → TakesRightly settings codec sender h origins events later
-  takes_from [] h origins [] bound holds keeps network = kept_rightly settings codec sender h origins holds.newest holds.kept keeps
-  takes_from [] h origins (o ∷ os) bound holds keeps network = absurd network
-  takes_from (e ∷ es) h origins [] bound holds keeps network = absurd network
-  takes_from (e ∷ es) h origins (o ∷ os) bound holds keeps network =
-      let s : Step settings codec sender honest h origins bound e o = step settings codec sender honest h origins bound holds e o network.0 in (
+  takes_from : (events : List Event) (h : List Event) (origins later : List Origin) (fs : List ℕ) → Holds settings codec sender honest (latest (snapshots settings codec h)) (taken settings codec h origins) fs → Keeps sender (taken settings codec h origins) (latest (snapshots settings codec h)).packets → HonestNetwork settings codec sender h origins events later → TakesRightly settings codec sender h origins events later
+  takes_from [] h origins [] fs holds keeps network = kept_rightly settings codec sender h origins holds.newest holds.kept keeps
+  takes_from [] h origins (o ∷ os) fs holds keeps network = absurd network
+  takes_from (e ∷ es) h origins [] fs holds keeps network = absurd network
+  takes_from (e ∷ es) h origins (o ∷ os) fs holds keeps network =
+      let s : Step settings codec sender honest h origins fs e o = step settings codec sender honest h origins fs holds e o network.0 in (
         kept_rightly settings codec sender h origins holds.newest holds.kept keeps,
         rightly_step settings codec sender h origins honest holds.newest keeps e o network.0,
         takes_from es (e ∷ h) (o ∷ origins) os s.after s.holds (keeps_step settings codec sender h origins honest holds.newest keeps e o network.0) network.1,
@@ -202,4 +203,4 @@ module _ (settings : Settings) (codec : Meaning) (sender : Sender) (honest : Hon
 
 -- every honest call takes and keeps rightly
 pub honest_taken : HonestTakenHolds
-honest_taken settings codec sender events origins honest network = takes_from settings codec sender honest events [] [] origins 0 (first_holds settings codec sender honest) (first_keeps settings codec sender) network
+honest_taken settings codec sender events origins honest network = takes_from settings codec sender honest events [] [] origins [] (first_holds settings codec sender honest) (first_keeps settings codec sender) network

@@ -10,32 +10,13 @@ use Rattle.vrx_core.specs.Sender.{Sender}
 use Rattle.vrx_core.specs.HonestNetwork.{greatest}
 use Rattle.vrx_core.specs.Ready.{IsNumber}
 use Rattle.vrx_core.proofs.KeyLemmas.{equal_key, key_same, same_key}
+use Rattle.vrx_core.proofs.MemberLemmas.{Contains-head, Contains-tail, Contains-either, Contains-empty}
 use Rattle.vrx_core.proofs.NumberLemmas.{IsNumberFrom, IsNumberFrom-oldest, IsNumber-grown, oldest}
-
--- the first of a list is in it
-pub Contains-first : (j : ℕ) (js : List ℕ) → Contains (j ∷ js) j
-Contains-first j js = (0, omega arith, refl)
-
--- what is in the rest of a list is in it
-pub Contains-later : (j : ℕ) (js : List ℕ) (i : ℕ) → Contains js i → Contains (j ∷ js) i
-Contains-later j js i c = (suc c.0, omega arith, c.2)
-
--- what is in a list is its first, or in the rest
-contains_at : (j : ℕ) (js : List ℕ) (i k : ℕ) → k < length (j ∷ js) → slice_index_or (j ∷ js) k i ≡ i → (j ≡ i) ⊎ Contains js i
-contains_at j js i zero within is = inl is
-contains_at j js i (suc k) within is = inr (k, omega arith, is)
-
-pub Contains-cases : (j : ℕ) (js : List ℕ) (i : ℕ) → Contains (j ∷ js) i → (j ≡ i) ⊎ Contains js i
-Contains-cases j js i c = contains_at j js i c.0 c.1 c.2
-
--- nothing is in the empty list
-pub Contains-none : (i : ℕ) → Contains [] i → ⊥
-Contains-none i c = omega arith
 
 -- what was taken isn't above the greatest
 pub greatest-upto : (js : List ℕ) (i : ℕ) → Contains js i → i ≤ greatest js
-greatest-upto [] i c = absurd (Contains-none i c)
-greatest-upto (j ∷ js) i c = elim (Contains-cases j js i c) [ inl same ↦ omega arith | inr later ↦ let upto : i ≤ greatest js = greatest-upto js i later in omega arith ]
+greatest-upto [] i c = absurd (Contains-empty i c)
+greatest-upto (j ∷ js) i c = elim (Contains-either j js i c) [ inl same ↦ omega arith | inr later ↦ let upto : i ≤ greatest js = greatest-upto js i later in omega arith ]
 
 module _ (sender : Sender) where
   -- numbers are as far from each other as their packets
@@ -72,7 +53,7 @@ module _ (sender : Sender) where
 
   -- where a packet was taken before, numbers were as they are
   pub number-before : (i : ℕ) (js : List ℕ) (k n : ℕ) → Contains js k → IsNumber sender (i ∷ js) k n → IsNumber sender js k n
-  number-before i [] k n c is = absurd (Contains-none k c)
+  number-before i [] k n c is = absurd (Contains-empty k c)
   number-before i (j ∷ js) k n c is = is
 
 -- what is found once a number was taken
@@ -131,11 +112,11 @@ module _ (sender : Sender) (js : List ℕ) (packets : Packets) (keeps : Keeps se
   -- what is available once packet i was taken
   placed-from : (q : ℕ) → is_available q (placed m n content packets) ≡ true → (k : ℕ) × Contains (i ∷ js) k × IsNumber sender (i ∷ js) k q × (greatest (i ∷ js) < k + 2048)
   placed-from q h = elim (placed_cases m n q content packets h) [
-    | inl same ↦ (i, Contains-first i js, subst (λ (x : ℕ). IsNumber sender (i ∷ js) i x) (sym same) number, number-near sender (i ∷ js) i (greatest (i ∷ js)) n m 2048 number newest inside)
+    | inl same ↦ (i, Contains-head i js, subst (λ (x : ℕ). IsNumber sender (i ∷ js) i x) (sym same) number, number-near sender (i ∷ js) i (greatest (i ∷ js)) n m 2048 number newest inside)
     | inr old ↦
         let p : (k : ℕ) × Contains js k × IsNumber sender js k q × (greatest js < k + 2048) = keeps.from q old.1 in
         let is : IsNumber sender (i ∷ js) p.0 q = IsNumber-grown sender i js p.0 q p.2 in
-        (p.0, Contains-later i js p.0 p.1, is, number-near sender (i ∷ js) p.0 (greatest (i ∷ js)) q m 2048 is newest (in_window-below m q old.0))
+        (p.0, Contains-tail i js p.0 p.1, is, number-near sender (i ∷ js) p.0 (greatest (i ∷ js)) q m 2048 is newest (in_window-below m q old.0))
   ]
 
   -- a packet taken before
@@ -150,7 +131,7 @@ module _ (sender : Sender) (js : List ℕ) (packets : Packets) (keeps : Keeps se
 
   -- every packet taken that lies near enough is available
   placed-all : (k q : ℕ) → Contains (i ∷ js) k → IsNumber sender (i ∷ js) k q → greatest (i ∷ js) < k + 2048 → is_available q (placed m n content packets) ≡ true
-  placed-all k q c is near = elim (Contains-cases i js k c) [
+  placed-all k q c is near = elim (Contains-either i js k c) [
     | inl same ↦ subst (λ (x : ℕ). is_available x (placed m n content packets) ≡ true) (one-number sender (i ∷ js) i n q number (subst (λ (x : ℕ). IsNumber sender (i ∷ js) x q) (sym same) is)) (placed_new m n content packets)
     | inr later ↦ placed-before k q later is near
   ]

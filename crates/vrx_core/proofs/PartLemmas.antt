@@ -1,5 +1,5 @@
 -- The packets of an honest sender are the parts of its frames.
-use Rattle.std.proofs.Common.{◌≡◌, ◌↔◌, ℕ, zero, suc, ◌+◌, ◌-◌, ◌<◌, ◌≤◌, ◌⊎◌, false, List, [], ◌∷◌, length, slice_get, Option, Some, None, IfSome, IsSomeAnd, refl, sym, ◌∙◌, ap, subst, arith, inl, inr}
+use Rattle.std.proofs.Common.{◌≡◌, ℕ, zero, suc, ◌+◌, ◌-◌, ◌<◌, ◌≤◌, ◌⊎◌, false, List, [], ◌∷◌, length, slice_get, Option, Some, None, IfSome, IsSomeAnd, refl, sym, ◌∙◌, ap, subst, arith, inl, inr}
 use Rattle.std.proofs.lemmas.Option.{none-some, same_Some, slice_get_within, slice_get-get_or}
 use Rattle.vrx_core.specs.Meaning.{Meaning}
 use Rattle.vrx_core.specs.Sender.{SentFrame, SentPacket, Media, Sender, IsOf, Spans}
@@ -71,7 +71,7 @@ module _ (settings : Settings) (codec : Meaning) (sender : Sender) where
         let p : (f : ℕ) × (f < length sender.frames) × (honest.place f ≤ i) × (i < honest.place f + size f) = honest.no_other i (slice_get_within sender.packets i packet is) in
         sent_in p.0 (slice_get sender.frames p.0) refl p.1 p.2 p.3 where
           sent_in : (f : ℕ) (o : Option SentFrame) → slice_get sender.frames f ≡ o → f < length sender.frames → honest.place f ≤ i → i < honest.place f + size f → IsSent i
-          sent_in f None none within from upto = absurd (none-some _ (sym none ∙ slice_get-get_or sender.frames f (record { bytes = []; key = false; ts = 0 }) within))
+          sent_in f None none within from upto = absurd (none-some _ (sym none ∙ slice_get-get_or sender.frames f (record { bytes = []; key = false; ts = 0; references = [] }) within))
           sent_in f (Some frame) there within from upto =
               let t : Travels settings codec sender f frame (honest.place f) (honest.parts f) = frame_travels f frame there in
               let c : (c : Carried) × IsPart settings codec sender f frame (size f) (i - honest.place f) i c = part-at f frame (size f) 0 (honest.place f) (i - honest.place f) (i - honest.place f) i (honest.parts f) t.each (omega arith) (omega arith) (omega arith) in

@@ -45,7 +45,7 @@ stands-beyond None run h = tt
 stands-beyond (Some last) run h = ltb-true last run.first h
 
 -- the frame that a pull gives doesn't end before it begins, and begins beyond the last one pulled
-given-rises : (codec : Meaning) (past : List Snapshot) (frame : Frame) → next_frame codec past ≡ Some frame → (frame.first ≤ frame.last) × IfSome (last_pulled (latest past).pulled) (λ last. last < frame.first)
+pub given-rises : (codec : Meaning) (past : List Snapshot) (frame : Frame) → next_frame codec past ≡ Some frame → (frame.first ≤ frame.last) × IfSome (last_pulled (latest past).pulled) (λ last. last < frame.first)
 given-rises codec past frame is =
     let s : Snapshot = latest past in
     let times : List Packets = map (λ t. t.packets) past in

@@ -1,30 +1,30 @@
--- The search of the engine finds the run that the machine answers: the first one beyond the last frame pulled.
+-- The search of the engine finds the run that the machine answers: the first deliverable one.
 use Rattle.std.proofs.Common.{◌≡◌, ◌↔◌, ℕ, ◌+◌, ◌-◌, ◌<◌, ◌≤◌, ◌⊎◌, Bool, true, false, not, ◌&&◌, ◌||◌, cond, if◌then◌else◌, List, [], ◌∷◌, ◌++◌, map, length, take, drop, Contains, Option, Some, None, Ok, refl, sym, ◌∙◌, ap, subst, arith, inl, inr}
-use Rattle.std.specs.Prelude.{nat_lt, is_none, ◌==◌}
+use Rattle.std.specs.Prelude.{nat_lt, nat_le, slice_get, is_none, IsSomeAnd, ◌==◌}
 use Rattle.std.specs.List.{AllByRecursion, flat_map}
 use Rattle.std.specs.Option.{option_map, option_map_or, option_and_then, option_or}
 use Rattle.std.specs.Result.{result_ok}
 use Rattle.std.specs.Ordering.{nat_cmp}
 use Rattle.std.specs.FinMap.Entries.{is_sorted}
-use Rattle.std.proofs.lemmas.Bool.{and_parts, and_from, eqb-true, eqb-false, eq-eqb, cases_order, cases_eq, true≢false, false_from_ne_true, not-true, not_from_false}
+use Rattle.std.proofs.lemmas.Bool.{and_parts, and_from, leb-true, le-leb, ltb-true, eqb-true, eqb-false, eq-eqb, cases_order, cases_eq, true≢false, false_from_ne_true, not-true, not_from_false}
 use Rattle.std.proofs.lemmas.Option.{none-some, same_Some}
 use Rattle.std.proofs.lemmas.List.Elements.{All-from_recursion, recursion_from_All}
 use Rattle.vrx_rtp.specs.Packet.{Packet, read}
 use Rattle.vrx_core.specs.Part.{Yes, No, Part}
 use Rattle.vrx_core.specs.Descriptor.{read_part, vp8}
-use Rattle.vrx_core.specs.Form.{begins_frame, is_form}
+use Rattle.vrx_core.specs.Form.{is_form}
 use Rattle.vrx_core.specs.Window.{Content, Media, Packets, at}
 use Rattle.vrx_core.specs.Run.{Run, Piece, text_of, begins, is_passed, began_behind, is_start, runs, ◌>>=◌}
 use Rattle.vrx_core.specs.IsRun.{IsPiece, ArePieces, IsRun}
-use Rattle.vrx_core.specs.Deliverable.{stands, is_evident, is_deliverable, answer}
+use Rattle.vrx_core.specs.Deliverable.{is_evident, is_deliverable, answer}
 use Rattle.vrx_core.specs.Machine.{frame_of}
-use Rattle.vrx_core.specs.Step.{IsTaken, AreTaken, is_beyond, packet_in, goes_on, run_from, run_length, standing_length, next_run, body_in, last_of, joined, next_joined}
+use Rattle.vrx_core.specs.Step.{IsTaken, AreTaken, is_due, begins_frame, is_key, packet_in, key_in, goes_on, run_from, run_length, due_length, next_run, body_in, last_of, joined, next_joined}
 use Rattle.vrx_core.specs.declared.settings.Settings.{Settings}
 use Rattle.vrx_core.specs.declared.reply.Frame.{Frame}
 use Rattle.vrx_core.proofs.FormLemmas.{SaysPart, IsTakenPacket, taken_packet, IsTakenPart, taken_part, SaysSo, part_says}
-use Rattle.vrx_core.proofs.WholeLemmas.{Above, Rising, rising_from, at_none, at_here, at_later}
+use Rattle.vrx_core.proofs.EntryLemmas.{Above, Rising, rising_from, at_none, at_here, at_later}
 use Rattle.vrx_core.proofs.HeldLemmas.{above-less}
-use Rattle.vrx_core.proofs.MemberLemmas.{Contains-head}
+use Rattle.vrx_core.proofs.MemberLemmas.{Contains-head, Contains-either, Contains-empty}
 use Rattle.vrx_core.proofs.RunLemmas.{runs-from, runs-to}
 use Rattle.vrx_core.proofs.AnswerLemmas.{answer-given, answer-least, answer-none}
 
@@ -131,6 +131,25 @@ taken-says settings content text packet part (other, is, form) media reads part_
     let k : IsTakenPacket settings text = taken_packet settings text (ap (is_form settings) (sym same) ∙ form) in
     let packets : k.packet ≡ packet = same_Some k.packet packet (sym k.reads ∙ reads) in
     part_says packet.payload part (subst (λ q. SaysPart q.payload) packets k.payload) part_reads
+
+-- two tests that are true together are the same
+same_truth : (a b : Bool) → (a ≡ true → b ≡ true) → (b ≡ true → a ≡ true) → a ≡ b
+same_truth true b to from = sym (to refl)
+same_truth false true to from = from refl
+same_truth false false to from = refl
+
+-- a run without layers is deliverable just where it is due, where all numbers up to the last one pulled are passed
+deliverable-due : (pulled : Option ℕ) (run : Run) → run.layers ≡ None → is_deliverable pulled pulled run ≡ is_due pulled run.first run.key
+deliverable-due None run plain = ap (λ l. run.key || (is_none l && is_evident None None run)) plain
+deliverable-due (Some last) run plain = ap (λ l. nat_lt last run.first && (run.key || (is_none l && is_evident (Some last) (Some last) run))) plain ∙ either (nat_lt last run.first) refl where
+  behind : last < run.first → nat_le (run.first - 1) last ≡ (run.first == last + 1)
+  behind beyond = same_truth (nat_le (run.first - 1) last) (run.first == last + 1)
+      (λ h. let upto : run.first - 1 ≤ last = leb-true (run.first - 1) last h in eq-eqb run.first (last + 1) (omega arith))
+      (λ h. let next : run.first ≡ last + 1 = eqb-true run.first (last + 1) h in le-leb (run.first - 1) last (omega arith))
+
+  either : (b : Bool) → nat_lt last run.first ≡ b → (b && (run.key || nat_le (run.first - 1) last)) ≡ (b && (run.key || (run.first == last + 1)))
+  either true beyond = ap (λ b. run.key || b) (behind (ltb-true last run.first beyond))
+  either false beyond = refl
 
 module _ (settings : Settings) (front : Option ℕ) (times : List Packets) where
   -- a taken piece is a start just where its payload begins a frame, whatever was passed and available
@@ -266,23 +285,55 @@ module _ (settings : Settings) (front : Option ℕ) (times : List Packets) where
 
   -- what the first entries join to
   joined-first : (e : ℕ × Content) (es : Packets) (last : ℕ) (p : Piece) (ps : List Piece) → AreTaken settings (e ∷ es) → AreFirst (e ∷ es) e.0 (p ∷ ps) → e.0 + length (p ∷ ps) ≡ last + 1
-      → joined (take (length (p ∷ ps)) (e ∷ es)) ≡ Some (record { first = e.0; last = last; ts = p.packet.ts; key = true; bytes = flat_map (λ part. part.body) (map (λ q. q.part) (p ∷ ps)) })
+      → joined (take (length (p ∷ ps)) (e ∷ es)) ≡ Some (record { first = e.0; last = last; ts = p.packet.ts; key = key_in e; bytes = flat_map (λ part. part.body) (map (λ q. q.part) (p ∷ ps)) })
   joined-first e es last p ps taken are size =
       ap (λ o. o >>= λ packet. Some (made (last_of e (take (length ps) es)) packet.ts (flat_map body_in (take (length (p ∷ ps)) (e ∷ es))))) (packet-in e are.0.text p.packet are.0.media are.0.reads)
       ∙ ap (λ n. Some (made n p.packet.ts (flat_map body_in (take (length (p ∷ ps)) (e ∷ es))))) (last-first e es e.0 last ps refl are.1 (omega arith))
       ∙ ap (λ bs. Some (made last p.packet.ts bs)) (bodies-first (e ∷ es) e.0 (p ∷ ps) taken are) where
         made : (last ts : ℕ) (bytes : List ℕ) → Frame
-        made l t bs = record { first = e.0; last = l; ts = t; key = true; bytes = bs }
+        made l t bs = record { first = e.0; last = l; ts = t; key = key_in e; bytes = bs }
+
+  -- the pieces of a run behind its first don't say a keyframe
+  later-keys : (es : Packets) (n ts last m : ℕ) (ps : List Piece) → n < m → AreTaken settings es → AreFirst es m ps → AreOf n ts last ps → (q : Piece) → Contains ps q → q.part.key ≡ true → ⊥
+  later-keys es n ts last m [] behind taken are of q there key = Contains-empty q there
+  later-keys [] n ts last m (p ∷ ps) behind taken are of q there key = absurd are
+  later-keys (e ∷ es) n ts last m (p ∷ ps) behind taken are of q there key = elim (Contains-either p ps q there) [
+    | inl same ↦
+        let says : SaysSo p.packet.payload p.part = taken-says settings e.1 are.0.text p.packet p.part taken.0 are.0.media are.0.reads are.0.part_reads in
+        let both : (begins_frame p.packet.payload ≡ true) × (is_key p.packet.payload ≡ true) = and_parts _ _ (sym says.key ∙ ap (λ (x : Piece). x.part.key) same ∙ key) in
+        let first : p.number ≡ n = of.start.0.0 (start-is p says ∙ both.0) in
+        let number : p.number ≡ m = are.0.number in
+        absurd (omega arith)
+    | inr later ↦ later-keys es n ts last (m + 1) ps (omega arith) taken.1 are.1 (record { ts_is = of.ts_is.1; start = of.start.1; marker = of.marker.1 }) q later key
+  ]
+
+  -- the first piece says one where the first entry does
+  first-key : (e : ℕ × Content) (es : Packets) (n ts last : ℕ) (p : Piece) (ps : List Piece) → AreTaken settings (e ∷ es) → AreFirst (e ∷ es) n (p ∷ ps) → AreOf n ts last (p ∷ ps) → p.part.key ≡ key_in e
+  first-key e es n ts last p ps taken are of =
+      let says : SaysSo p.packet.payload p.part = taken-says settings e.1 are.0.text p.packet p.part taken.0 are.0.media are.0.reads are.0.part_reads in
+      let begin : begins_frame p.packet.payload ≡ true = sym (start-is p says) ∙ of.start.0.1 are.0.number in
+      says.key ∙ ap (λ b. b && is_key p.packet.payload) begin ∙ ap (λ o. option_map_or (λ packet. is_key packet.payload) o false) (sym (packet-in e are.0.text p.packet are.0.media are.0.reads))
+
+  -- so some piece of a run says a keyframe just where the first entry does
+  keys-first : (e : ℕ × Content) (es : Packets) (n ts last : ℕ) (p : Piece) (ps : List Piece) → AreTaken settings (e ∷ es) → AreFirst (e ∷ es) n (p ∷ ps) → AreOf n ts last (p ∷ ps) → (key_in e ≡ true) ↔ ((q : Piece) × Contains (p ∷ ps) q × (q.part.key ≡ true))
+  keys-first e es n ts last p ps taken are of = (
+    λ key. (p, Contains-head p ps, first-key e es n ts last p ps taken are of ∙ key),
+    λ some. among some.0 some.2 (Contains-either p ps some.0 some.1),
+  ) where
+    among : (q : Piece) → q.part.key ≡ true → (p ≡ q) ⊎ Contains ps q → key_in e ≡ true
+    among q key (inl same) = sym (first-key e es n ts last p ps taken are of) ∙ ap (λ (x : Piece). x.part.key) same ∙ key
+    among q key (inr later) = absurd (later-keys es n ts last (n + 1) ps (omega arith) taken.1 are.1 (record { ts_is = of.ts_is.1; start = of.start.1; marker = of.marker.1 }) q later key)
 
   -- a run that begins with the first entry, as the search finds it
-  record IsFirstRun (es : Packets) (n c : ℕ) : Type 0 where
+  record IsFirstRun (es : Packets) (n c : ℕ) (says_key : Bool) : Type 0 where
     pub run : Run
     pub is : IsRun vp8 front times es run
     pub first : run.first ≡ n
+    pub key : run.key ≡ says_key
     pub joins : joined (take c es) ≡ Some (frame_of run)
 
   -- what is found is a run
-  run-sound : (e : ℕ × Content) (es : Packets) (c : ℕ) → AreTaken settings (e ∷ es) → run_length (e ∷ es) ≡ Some c → IsFirstRun (e ∷ es) e.0 c
+  run-sound : (e : ℕ × Content) (es : Packets) (c : ℕ) → AreTaken settings (e ∷ es) → run_length (e ∷ es) ≡ Some c → IsFirstRun (e ∷ es) e.0 c (key_in e)
   run-sound e es c taken found =
       let k : IsRead e = read_entry settings e taken.0 in
       let g : Goes e.0 k.packet.ts 0 e.0 (e ∷ es) c = sound e.0 k.packet.ts 0 e.0 (e ∷ es) c (omega arith) taken (sym (ap (λ o. o >>= λ packet. run_from e.0 packet.ts 0 (e ∷ es)) (packet-in e k.text k.packet k.media k.reads)) ∙ found) in
@@ -290,9 +341,7 @@ module _ (settings : Settings) (front : Option ℕ) (times : List Packets) where
       let last : ℕ = e.0 + length g.pieces in
       let of : AreOf e.0 k.packet.ts last (g.piece ∷ g.pieces) = g.of last (omega arith) in
       let same_ts : g.piece.packet.ts ≡ k.packet.ts = of.ts_is.0 in
-      let says : SaysSo g.piece.packet.payload g.piece.part = taken-says settings e.1 g.are.0.text g.piece.packet g.piece.part taken.0 g.are.0.media g.are.0.reads g.are.0.part_reads in
-      let begins_it : begins_frame g.piece.packet.payload ≡ true = sym (start-is g.piece says) ∙ of.start.0.1 g.are.0.number in
-      let run : Run = record { first = e.0; last = last; ts = k.packet.ts; key = true; layers = g.piece.part.layers; bytes = flat_map (λ part. part.body) (map (λ p. p.part) (g.piece ∷ g.pieces)) } in
+      let run : Run = record { first = e.0; last = last; ts = k.packet.ts; key = key_in e; layers = g.piece.part.layers; bytes = flat_map (λ part. part.body) (map (λ p. p.part) (g.piece ∷ g.pieces)) } in
       record {
         run = run;
         is = record {
@@ -303,74 +352,76 @@ module _ (settings : Settings) (front : Option ℕ) (times : List Packets) where
           ts = All-from_recursion _ (g.piece ∷ g.pieces) of.ts_is;
           start = All-from_recursion _ (g.piece ∷ g.pieces) of.start;
           marker = All-from_recursion _ (g.piece ∷ g.pieces) of.marker;
-          key = (λ _. (g.piece, Contains-head g.piece g.pieces, says.key begins_it), λ _. refl);
+          key = keys-first e es e.0 k.packet.ts last g.piece g.pieces taken g.are of;
           layers = refl;
           joins = refl;
         };
         first = refl;
+        key = refl;
         joins = ap (λ n. joined (take n (e ∷ es))) (sym size) ∙ joined-first e es last g.piece g.pieces taken g.are (omega arith)
-            ∙ ap (λ t. Some (frame_of (record { first = e.0; last = last; ts = t; key = true; layers = g.piece.part.layers; bytes = flat_map (λ part. part.body) (map (λ p. p.part) (g.piece ∷ g.pieces)) }))) same_ts;
+            ∙ ap (λ t. Some (frame_of (record { first = e.0; last = last; ts = t; key = key_in e; layers = g.piece.part.layers; bytes = flat_map (λ part. part.body) (map (λ p. p.part) (g.piece ∷ g.pieces)) }))) same_ts;
       }
 
   -- a run that begins with the first entry is found: its length, and what its entries join to
-  record IsFound (es : Packets) (run : Run) : Type 0 where
+  record IsFound (es : Packets) (run : Run) (says_key : Bool) : Type 0 where
     pub size : ℕ
     pub found : run_length es ≡ Some size
+    pub key : run.key ≡ says_key
     pub joins : joined (take size es) ≡ Some (frame_of run)
 
   -- a run of these pieces is found
   found-with : (e : ℕ × Content) (es : Packets) (run : Run) (ps : List Piece) → AreTaken settings (e ∷ es) → Rising (e ∷ es) → run.first ≡ e.0 → run.first ≤ run.last → ArePieces vp8 (e ∷ es) run.first ps → run.first + length ps ≡ run.last + 1 → AreOf run.first run.ts run.last ps
-      → (run.key ≡ true) ↔ ((p : Piece) × Contains ps p × (p.part.key ≡ true)) → vp8.join (map (λ p. p.part) ps) ≡ Ok run.bytes → IsFound (e ∷ es) run
+      → (run.key ≡ true) ↔ ((p : Piece) × Contains ps p × (p.part.key ≡ true)) → vp8.join (map (λ p. p.part) ps) ≡ Ok run.bytes → IsFound (e ∷ es) run (key_in e)
   found-with e es run [] taken rising first within pieces size of key joins = absurd (omega arith)
   found-with e es run (p ∷ ps) taken rising first within pieces size of key joins =
       let are : AreFirst (e ∷ es) run.first (p ∷ ps) = first-from (e ∷ es) run.first (p ∷ ps) rising (omega arith) pieces in
       let here : AreFirst (e ∷ es) e.0 (p ∷ ps) = subst (λ n. AreFirst (e ∷ es) n (p ∷ ps)) first are in
-      let says : SaysSo p.packet.payload p.part = taken-says settings e.1 are.0.text p.packet p.part taken.0 are.0.media are.0.reads are.0.part_reads in
       let same_ts : p.packet.ts ≡ run.ts = of.ts_is.0 in
-      let is_key : run.key ≡ true = key.1 (p, Contains-head p ps, says.key (sym (start-is p says) ∙ of.start.0.1 are.0.number)) in
+      let keys : (key_in e ≡ true) ↔ ((q : Piece) × Contains (p ∷ ps) q × (q.part.key ≡ true)) = keys-first e es run.first run.ts run.last p ps taken are of in
+      let says : run.key ≡ key_in e = same_truth run.key (key_in e) (λ h. keys.1 (key.0 h)) (λ h. key.1 (keys.0 h)) in
       let bytes : flat_map (λ part. part.body) (map (λ q. q.part) (p ∷ ps)) ≡ run.bytes = same_Some _ run.bytes (ap result_ok joins) in
       record {
         size = length (p ∷ ps);
         found = ap (λ o. o >>= λ packet. run_from e.0 packet.ts 0 (e ∷ es)) (packet-in e are.0.text p.packet are.0.media are.0.reads)
             ∙ ap (λ n. run_from n p.packet.ts 0 (e ∷ es)) (sym first) ∙ ap (λ t. run_from run.first t 0 (e ∷ es)) same_ts
             ∙ complete run.first run.ts run.last 0 run.first (e ∷ es) p ps (omega arith) taken are of size ∙ ap Some (omega arith);
+        key = says;
         joins = joined-first e es run.last p ps taken here (omega arith)
-            ∙ ap (λ n. Some (made n run.last p.packet.ts true (flat_map (λ part. part.body) (map (λ q. q.part) (p ∷ ps))))) (sym first)
-            ∙ ap (λ t. Some (made run.first run.last t true (flat_map (λ part. part.body) (map (λ q. q.part) (p ∷ ps))))) same_ts
-            ∙ ap (λ k. Some (made run.first run.last run.ts k (flat_map (λ part. part.body) (map (λ q. q.part) (p ∷ ps))))) (sym is_key)
+            ∙ ap (λ n. Some (made n run.last p.packet.ts (key_in e) (flat_map (λ part. part.body) (map (λ q. q.part) (p ∷ ps))))) (sym first)
+            ∙ ap (λ t. Some (made run.first run.last t (key_in e) (flat_map (λ part. part.body) (map (λ q. q.part) (p ∷ ps))))) same_ts
+            ∙ ap (λ k. Some (made run.first run.last run.ts k (flat_map (λ part. part.body) (map (λ q. q.part) (p ∷ ps))))) (sym says)
             ∙ ap (λ bs. Some (made run.first run.last run.ts run.key bs)) bytes;
       } where
         made : (first last ts : ℕ) (key : Bool) (bytes : List ℕ) → Frame
         made f l t k bs = record { first = f; last = l; ts = t; key = k; bytes = bs }
 
   -- each run that begins with the first entry is found
-  run-complete : (e : ℕ × Content) (es : Packets) (run : Run) → AreTaken settings (e ∷ es) → Rising (e ∷ es) → IsRun vp8 front times (e ∷ es) run → run.first ≡ e.0 → IsFound (e ∷ es) run
+  run-complete : (e : ℕ × Content) (es : Packets) (run : Run) → AreTaken settings (e ∷ es) → Rising (e ∷ es) → IsRun vp8 front times (e ∷ es) run → run.first ≡ e.0 → IsFound (e ∷ es) run (key_in e)
   run-complete e es run taken rising is first = found-with e es run is.pieces taken rising first is.not_empty is.from_first is.to_last
       (record { ts_is = recursion_from_All _ is.pieces is.ts; start = recursion_from_All _ is.pieces is.start; marker = recursion_from_All _ is.pieces is.marker }) is.key is.joins
 
   -- so two such runs give the same frame
   same-frame : (e : ℕ × Content) (es : Packets) (a b : Run) → AreTaken settings (e ∷ es) → Rising (e ∷ es) → IsRun vp8 front times (e ∷ es) a → a.first ≡ e.0 → IsRun vp8 front times (e ∷ es) b → b.first ≡ e.0 → frame_of b ≡ frame_of a
   same-frame e es a b taken rising a_is a_first b_is b_first =
-      let f : IsFound (e ∷ es) a = run-complete e es a taken rising a_is a_first in
-      let g : IsFound (e ∷ es) b = run-complete e es b taken rising b_is b_first in
+      let f : IsFound (e ∷ es) a (key_in e) = run-complete e es a taken rising a_is a_first in
+      let g : IsFound (e ∷ es) b (key_in e) = run-complete e es b taken rising b_is b_first in
       let sizes : f.size ≡ g.size = same_Some f.size g.size (sym f.found ∙ g.found) in
       same_Some (frame_of b) (frame_of a) (sym g.joins ∙ ap (λ n. joined (take n (e ∷ es))) (sym sizes) ∙ f.joins)
 
-  -- the first packet of a run, and its part
+  -- the first packet of a run, whose part has the run's layers
   record FirstPiece (es : Packets) (run : Run) : Type 0 where
     pub piece : Piece
     pub is : IsPiece vp8 es run.first piece
-    pub starts : is_start front times piece ≡ true
-    pub key : piece.part.key ≡ true → run.key ≡ true
+    pub layers : run.layers ≡ piece.part.layers
 
   -- it is the first of the run's pieces, of which there is one
-  first-with : (es : Packets) (run : Run) (ps : List Piece) → run.first ≤ run.last → ArePieces vp8 es run.first ps → run.first + length ps ≡ run.last + 1 → AllByRecursion (λ p. (is_start front times p ≡ true) ↔ (p.number ≡ run.first)) ps → (run.key ≡ true) ↔ ((p : Piece) × Contains ps p × (p.part.key ≡ true)) → FirstPiece es run
-  first-with es run [] within are size start key = absurd (omega arith)
-  first-with es run (p ∷ ps) within are size start key = record { piece = p; is = are.0; starts = start.0.1 are.0.number; key = λ k. key.1 (p, Contains-head p ps, k) }
+  first-with : (es : Packets) (run : Run) (ps : List Piece) → run.first ≤ run.last → ArePieces vp8 es run.first ps → run.first + length ps ≡ run.last + 1 → IsSomeAnd (slice_get ps 0) (λ p. run.layers ≡ p.part.layers) → FirstPiece es run
+  first-with es run [] within are size layers = absurd (omega arith)
+  first-with es run (p ∷ ps) within are size layers = record { piece = p; is = are.0; layers = layers }
 
   -- that of a run
   first-piece : (es : Packets) (run : Run) → IsRun vp8 front times es run → FirstPiece es run
-  first-piece es run is = first-with es run is.pieces is.not_empty is.from_first is.to_last (recursion_from_All _ is.pieces is.start) is.key
+  first-piece es run is = first-with es run is.pieces is.not_empty is.from_first is.to_last is.layers
 
   -- a run begins with the first entry, or behind it
   run-place : (e : ℕ × Content) (es : Packets) (run : Run) → Rising (e ∷ es) → IsRun vp8 front times (e ∷ es) run → (run.first ≡ e.0) ⊎ (e.0 < run.first)
@@ -393,69 +444,70 @@ module _ (settings : Settings) (front : Option ℕ) (times : List Packets) where
   run-above k [] run above rising is = absurd (no-run run is)
   run-above k (e ∷ es) run above rising is = elim (run-place e es run rising is) [ inl same ↦ omega (arith, above.0) | inr behind ↦ omega (arith, above.0) ]
 
-  -- the run that is next: the first of those that lie beyond the last frame pulled, what its entries join to, and that
-  -- no other run that begins there gives another frame
+  -- the run that is next: the first of those that are due, what its entries join to, and that no other run that begins
+  -- there gives another frame
   pub record IsNext (pulled : Option ℕ) (packets held : Packets) : Type 0 where
     pub run : Run
     pub is : IsRun vp8 front times packets run
-    pub beyond : is_beyond pulled run.first ≡ true
+    pub due : is_due pulled run.first run.key ≡ true
     pub joins : joined held ≡ Some (frame_of run)
-    pub least : (other : Run) → IsRun vp8 front times packets other → is_beyond pulled other.first ≡ true → run.first ≤ other.first
+    pub least : (other : Run) → IsRun vp8 front times packets other → is_due pulled other.first other.key ≡ true → run.first ≤ other.first
     pub same : (other : Run) → IsRun vp8 front times packets other → other.first ≡ run.first → frame_of other ≡ frame_of run
 
-  -- what a search says: no run lies beyond the last frame pulled, or these are the entries of the next
+  -- what a search says: no run is due, or these are the entries of the next
   abbrev pub Searched : Option ℕ → Packets → Option Packets → Type 0
-  Searched pulled packets None = (run : Run) → IsRun vp8 front times packets run → is_beyond pulled run.first ≡ false
+  Searched pulled packets None = (run : Run) → IsRun vp8 front times packets run → is_due pulled run.first run.key ≡ false
   Searched pulled packets (Some held) = IsNext pulled packets held
 
-  -- where a run that stands begins with the first entry, it is next
-  searched-here : (pulled : Option ℕ) (e : ℕ × Content) (es : Packets) (c : ℕ) → AreTaken settings (e ∷ es) → Rising (e ∷ es) → standing_length pulled (e ∷ es) ≡ Some c → IsNext pulled (e ∷ es) (take c (e ∷ es))
-  searched-here pulled e es c taken rising standing =
-      let a : (is_beyond pulled e.0 ≡ true) × (run_length (e ∷ es) ≡ Some c) = tested (is_beyond pulled e.0) (run_length (e ∷ es)) standing in
-      let r : IsFirstRun (e ∷ es) e.0 c = run-sound e es c taken a.1 in
+  -- where a run that is due begins with the first entry, it is next
+  searched-here : (pulled : Option ℕ) (e : ℕ × Content) (es : Packets) (c : ℕ) → AreTaken settings (e ∷ es) → Rising (e ∷ es) → due_length pulled (e ∷ es) ≡ Some c → IsNext pulled (e ∷ es) (take c (e ∷ es))
+  searched-here pulled e es c taken rising is_due_here =
+      let a : (is_due pulled e.0 (key_in e) ≡ true) × (run_length (e ∷ es) ≡ Some c) = tested (is_due pulled e.0 (key_in e)) (run_length (e ∷ es)) is_due_here in
+      let r : IsFirstRun (e ∷ es) e.0 c (key_in e) = run-sound e es c taken a.1 in
       let first : r.run.first ≡ e.0 = r.first in
       record {
         run = r.run;
         is = r.is;
-        beyond = ap (is_beyond pulled) first ∙ a.0;
+        due = ap (λ n. is_due pulled n r.run.key) first ∙ ap (is_due pulled e.0) r.key ∙ a.0;
         joins = r.joins;
-        least = λ other is beyond. elim (run-place e es other rising is) [ inl same ↦ omega arith | inr behind ↦ omega arith ];
+        least = λ other is due. elim (run-place e es other rising is) [ inl same ↦ omega arith | inr behind ↦ omega arith ];
         same = λ other is at_first. same-frame e es r.run other taken rising r.is first is (at_first ∙ first);
       } where
         tested : (b : Bool) (o : Option ℕ) → cond b o None ≡ Some c → (b ≡ true) × (o ≡ Some c)
         tested true o is = (refl, is)
         tested false o is = absurd (none-some c is)
 
-  -- where none does, each run that lies beyond the last frame pulled is behind the first entry
-  beyond-behind : (pulled : Option ℕ) (e : ℕ × Content) (es : Packets) (run : Run) → AreTaken settings (e ∷ es) → Rising (e ∷ es) → standing_length pulled (e ∷ es) ≡ None → IsRun vp8 front times (e ∷ es) run → is_beyond pulled run.first ≡ true → e.0 < run.first
-  beyond-behind pulled e es run taken rising none is beyond = elim (run-place e es run rising is) [
-    | inl first ↦ let f : IsFound (e ∷ es) run = run-complete e es run taken rising is first in
-        absurd (none-some f.size (sym none ∙ ap (λ b. cond b (run_length (e ∷ es)) None) (ap (is_beyond pulled) (sym first) ∙ beyond) ∙ f.found))
+  -- where none does, each run that is due is behind the first entry
+  due-behind : (pulled : Option ℕ) (e : ℕ × Content) (es : Packets) (run : Run) → AreTaken settings (e ∷ es) → Rising (e ∷ es) → due_length pulled (e ∷ es) ≡ None → IsRun vp8 front times (e ∷ es) run → is_due pulled run.first run.key ≡ true → e.0 < run.first
+  due-behind pulled e es run taken rising none is due = elim (run-place e es run rising is) [
+    | inl first ↦ let f : IsFound (e ∷ es) run (key_in e) = run-complete e es run taken rising is first in
+        let here : is_due pulled e.0 (key_in e) ≡ true = ap (is_due pulled e.0) (sym f.key) ∙ ap (λ n. is_due pulled n run.key) (sym first) ∙ due in
+        absurd (none-some f.size (sym none ∙ ap (λ b. cond b (run_length (e ∷ es)) None) here ∙ f.found))
     | inr behind ↦ behind
   ]
 
   -- and what is next of the other entries is next
-  searched-later : (pulled : Option ℕ) (e : ℕ × Content) (es : Packets) (o : Option Packets) → AreTaken settings (e ∷ es) → Rising (e ∷ es) → standing_length pulled (e ∷ es) ≡ None → Searched pulled es o → Searched pulled (e ∷ es) o
-  searched-later pulled e es None taken rising none rest = λ run is. false_from_ne_true (is_beyond pulled run.first)
-      (λ beyond. true≢false (sym beyond ∙ rest run (run-behind e es run (beyond-behind pulled e es run taken rising none is beyond) is)))
+  searched-later : (pulled : Option ℕ) (e : ℕ × Content) (es : Packets) (o : Option Packets) → AreTaken settings (e ∷ es) → Rising (e ∷ es) → due_length pulled (e ∷ es) ≡ None → Searched pulled es o → Searched pulled (e ∷ es) o
+  searched-later pulled e es None taken rising none rest = λ run is. false_from_ne_true (is_due pulled run.first run.key)
+      (λ due. true≢false (sym due ∙ rest run (run-behind e es run (due-behind pulled e es run taken rising none is due) is)))
   searched-later pulled e es (Some held) taken rising none rest =
       let above : e.0 < rest.run.first = run-above e.0 es rest.run rising.0 rising.1 rest.is in
       record {
         run = rest.run;
         is = run-before e es rest.run above rest.is;
-        beyond = rest.beyond;
+        due = rest.due;
         joins = rest.joins;
-        least = λ other is beyond. rest.least other (run-behind e es other (beyond-behind pulled e es other taken rising none is beyond) is) beyond;
+        least = λ other is due. rest.least other (run-behind e es other (due-behind pulled e es other taken rising none is due) is) due;
         same = λ other is at_first. rest.same other (run-behind e es other (omega arith) is) at_first;
       }
 
   -- the search says so
   pub searched : (pulled : Option ℕ) (packets : Packets) → AreTaken settings packets → Rising packets → Searched pulled packets (next_run pulled packets)
   searched pulled [] taken rising = λ run is. absurd (no-run run is)
-  searched pulled (e ∷ es) taken rising = either (standing_length pulled (e ∷ es)) refl (searched pulled es taken.1 rising.1) where
-    either : (o : Option ℕ) → standing_length pulled (e ∷ es) ≡ o → Searched pulled es (next_run pulled es) → Searched pulled (e ∷ es) (option_or (option_map (λ n. take n (e ∷ es)) o) (next_run pulled es))
+  searched pulled (e ∷ es) taken rising = either (due_length pulled (e ∷ es)) refl (searched pulled es taken.1 rising.1) where
+    either : (o : Option ℕ) → due_length pulled (e ∷ es) ≡ o → Searched pulled es (next_run pulled es) → Searched pulled (e ∷ es) (option_or (option_map (λ n. take n (e ∷ es)) o) (next_run pulled es))
     either None none rest = searched-later pulled e es (next_run pulled es) taken rising none rest
-    either (Some c) standing rest = searched-here pulled e es c taken rising standing
+    either (Some c) due rest = searched-here pulled e es c taken rising due
 
   -- a content that stands in a map of taken entries was taken
   taken-at : (n : ℕ) (content : Content) (es : Packets) → AreTaken settings es → at n es ≡ Some content → IsTaken settings content
@@ -465,74 +517,64 @@ module _ (settings : Settings) (front : Option ℕ) (times : List Packets) where
     | inr other ↦ taken-at n content es taken.1 (sym (at_later n e es other) ∙ is)
   ]
 
-  -- each run of taken packets is a keyframe
-  run-key : (packets : Packets) (run : Run) → AreTaken settings packets → IsRun vp8 front times packets run → run.key ≡ true
-  run-key packets run taken is =
+  -- a run of taken packets has no layers
+  run-plain : (packets : Packets) (run : Run) → AreTaken settings packets → IsRun vp8 front times packets run → run.layers ≡ None
+  run-plain packets run taken is =
       let p : FirstPiece packets run = first-piece packets run is in
       let says : SaysSo p.piece.packet.payload p.piece.part = taken-says settings (Media p.is.text) p.is.text p.piece.packet p.piece.part (taken-at run.first (Media p.is.text) packets taken p.is.media) refl p.is.reads p.is.part_reads in
-      p.key (says.key (sym (start-is p.piece says) ∙ p.starts))
+      p.layers ∙ says.layers
 
-  -- so it is deliverable just where it lies beyond the last frame pulled
-  deliverable-is : (pulled : Option ℕ) (packets : Packets) (run : Run) → AreTaken settings packets → IsRun vp8 front times packets run → is_deliverable pulled front run ≡ is_beyond pulled run.first
-  deliverable-is pulled packets run taken is = ap (λ b. stands pulled run && (b || (is_none run.layers && is_evident pulled front run))) (run-key packets run taken is) ∙ whole pulled where
-    and_true : (b : Bool) → (b && true) ≡ b
-    and_true true = refl
-    and_true false = refl
-
-    whole : (o : Option ℕ) → (stands o run && true) ≡ is_beyond o run.first
-    whole None = refl
-    whole (Some last) = and_true (nat_lt last run.first)
+-- from here on all numbers up to the last one pulled are passed
+module _ (settings : Settings) (pulled : Option ℕ) (times : List Packets) (packets : Packets) (taken : AreTaken settings packets) where
+  -- a run is deliverable just where it is due
+  deliverable-is : (run : Run) → IsRun vp8 pulled times packets run → is_deliverable pulled pulled run ≡ is_due pulled run.first run.key
+  deliverable-is run is = deliverable-due pulled run (run-plain settings pulled times packets run taken is)
 
   -- the frame of the next run is what the machine answers
-  answered : (pulled : Option ℕ) (packets : Packets) (o : Option Packets) → AreTaken settings packets → Searched pulled packets o → (a : Option Run) → answer pulled front (runs vp8 front times packets) ≡ a → option_and_then joined o ≡ option_map frame_of a
-  answered pulled packets None taken none None is = refl
-  answered pulled packets None taken none (Some run) is =
-      let given : Contains (runs vp8 front times packets) run × (is_deliverable pulled front run ≡ true) = answer-given pulled front (runs vp8 front times packets) run is in
-      let run_is : IsRun vp8 front times packets run = runs-from vp8 front times packets run given.0 in
-      absurd (true≢false (sym given.1 ∙ deliverable-is pulled packets run taken run_is ∙ none run run_is))
-  answered pulled packets (Some held) taken next None is =
-      absurd (true≢false (sym next.beyond ∙ sym (deliverable-is pulled packets next.run taken next.is) ∙ answer-none pulled front (runs vp8 front times packets) is next.run (runs-to vp8 front times packets next.run next.is)))
-  answered pulled packets (Some held) taken next (Some run) is =
-      let given : Contains (runs vp8 front times packets) run × (is_deliverable pulled front run ≡ true) = answer-given pulled front (runs vp8 front times packets) run is in
-      let run_is : IsRun vp8 front times packets run = runs-from vp8 front times packets run given.0 in
-      let upto : next.run.first ≤ run.first = next.least run run_is (sym (deliverable-is pulled packets run taken run_is) ∙ given.1) in
-      let from : run.first ≤ next.run.first = answer-least pulled front (runs vp8 front times packets) run next.run is (runs-to vp8 front times packets next.run next.is) (deliverable-is pulled packets next.run taken next.is ∙ next.beyond) in
+  answered : (o : Option Packets) → Searched settings pulled times pulled packets o → (a : Option Run) → answer pulled pulled (runs vp8 pulled times packets) ≡ a → option_and_then joined o ≡ option_map frame_of a
+  answered None none None is = refl
+  answered None none (Some run) is =
+      let given : Contains (runs vp8 pulled times packets) run × (is_deliverable pulled pulled run ≡ true) = answer-given pulled pulled (runs vp8 pulled times packets) run is in
+      let run_is : IsRun vp8 pulled times packets run = runs-from vp8 pulled times packets run given.0 in
+      absurd (true≢false (sym given.1 ∙ deliverable-is run run_is ∙ none run run_is))
+  answered (Some held) next None is =
+      absurd (true≢false (sym next.due ∙ sym (deliverable-is next.run next.is) ∙ answer-none pulled pulled (runs vp8 pulled times packets) is next.run (runs-to vp8 pulled times packets next.run next.is)))
+  answered (Some held) next (Some run) is =
+      let given : Contains (runs vp8 pulled times packets) run × (is_deliverable pulled pulled run ≡ true) = answer-given pulled pulled (runs vp8 pulled times packets) run is in
+      let run_is : IsRun vp8 pulled times packets run = runs-from vp8 pulled times packets run given.0 in
+      let upto : next.run.first ≤ run.first = next.least run run_is (sym (deliverable-is run run_is) ∙ given.1) in
+      let from : run.first ≤ next.run.first = answer-least pulled pulled (runs vp8 pulled times packets) run next.run is (runs-to vp8 pulled times packets next.run next.is) (deliverable-is next.run next.is ∙ next.due) in
       next.joins ∙ ap Some (sym (next.same run run_is (omega arith)))
 
--- what the engine hands out is what the machine answers, whatever was passed and available before
-pub next-answer : (settings : Settings) (front pulled : Option ℕ) (times : List Packets) (packets : Packets) → is_sorted nat_cmp packets ≡ true → AreTaken settings packets → next_joined pulled packets ≡ option_map frame_of (answer pulled front (runs vp8 front times packets))
-next-answer settings front pulled times packets sorted taken = answered settings front times pulled packets (next_run pulled packets) taken (searched settings front times pulled packets taken (rising_from packets sorted)) (answer pulled front (runs vp8 front times packets)) refl
+  -- where the search finds nothing, no run is deliverable
+  none-deliverable : (o : Option Packets) → Searched settings pulled times pulled packets o → o ≡ None → (run : Run) → Contains (runs vp8 pulled times packets) run → is_deliverable pulled pulled run ≡ false
+  none-deliverable None none is run there = let run_is : IsRun vp8 pulled times packets run = runs-from vp8 pulled times packets run there in deliverable-is run run_is ∙ none run run_is
+  none-deliverable (Some held) next is run there = absurd (none-some held (sym is))
 
--- a run of the machine stands where it lies beyond the last frame pulled
-stands-is : (pulled : Option ℕ) (run : Run) → stands pulled run ≡ is_beyond pulled run.first
-stands-is None run = refl
-stands-is (Some last) run = refl
+  -- a search that finds something joins it
+  joins-some : (o : Option Packets) → Searched settings pulled times pulled packets o → option_and_then joined o ≡ None → o ≡ None
+  joins-some None none is = refl
+  joins-some (Some held) next is = absurd (none-some (frame_of next.run) (sym is ∙ next.joins))
 
--- where the search finds nothing, no run stands
-none-stands : (settings : Settings) (front : Option ℕ) (times : List Packets) (pulled : Option ℕ) (packets : Packets) (o : Option Packets) → Searched settings front times pulled packets o → o ≡ None → (run : Run) → Contains (runs vp8 front times packets) run → stands pulled run ≡ false
-none-stands settings front times pulled packets None none is run there = stands-is pulled run ∙ none run (runs-from vp8 front times packets run there)
-none-stands settings front times pulled packets (Some held) next is run there = absurd (none-some held (sym is))
+  -- where no run is deliverable, the search finds nothing
+  finds-none : (o : Option Packets) → Searched settings pulled times pulled packets o → ((run : Run) → Contains (runs vp8 pulled times packets) run → is_deliverable pulled pulled run ≡ false) → option_and_then joined o ≡ None
+  finds-none None none no_run = refl
+  finds-none (Some held) next no_run = absurd (true≢false (sym next.due ∙ sym (deliverable-is next.run next.is) ∙ no_run next.run (runs-to vp8 pulled times packets next.run next.is)))
 
--- a search that finds something joins it
-joins-some : (settings : Settings) (pulled : Option ℕ) (packets : Packets) (o : Option Packets) → Searched settings None [] pulled packets o → option_and_then joined o ≡ None → o ≡ None
-joins-some settings pulled packets None none is = refl
-joins-some settings pulled packets (Some held) next is = absurd (none-some (frame_of next.run) (sym is ∙ next.joins))
+-- what the engine hands out is what the machine answers, whatever was available before
+pub next-answer : (settings : Settings) (pulled : Option ℕ) (times : List Packets) (packets : Packets) → is_sorted nat_cmp packets ≡ true → AreTaken settings packets → next_joined pulled packets ≡ option_map frame_of (answer pulled pulled (runs vp8 pulled times packets))
+next-answer settings pulled times packets sorted taken = answered settings pulled times packets taken (next_run pulled packets) (searched settings pulled times pulled packets taken (rising_from packets sorted)) (answer pulled pulled (runs vp8 pulled times packets)) refl
 
 -- where the engine hands out nothing, its search finds nothing
 pub joined-none : (settings : Settings) (pulled : Option ℕ) (packets : Packets) → is_sorted nat_cmp packets ≡ true → AreTaken settings packets → next_joined pulled packets ≡ None → next_run pulled packets ≡ None
-joined-none settings pulled packets sorted taken is = joins-some settings pulled packets (next_run pulled packets) (searched settings None [] pulled packets taken (rising_from packets sorted)) is
+joined-none settings pulled packets sorted taken is = joins-some settings pulled [] packets taken (next_run pulled packets) (searched settings pulled [] pulled packets taken (rising_from packets sorted)) is
 
--- and no run stands, whatever was passed and available before
-pub joined-none-stands : (settings : Settings) (pulled : Option ℕ) (packets : Packets) → is_sorted nat_cmp packets ≡ true → AreTaken settings packets → next_joined pulled packets ≡ None
-    → (front : Option ℕ) (times : List Packets) (run : Run) → Contains (runs vp8 front times packets) run → stands pulled run ≡ false
-joined-none-stands settings pulled packets sorted taken is front times =
-    none-stands settings front times pulled packets (next_run pulled packets) (searched settings front times pulled packets taken (rising_from packets sorted)) (joined-none settings pulled packets sorted taken is)
+-- and no run is deliverable, whatever was available before
+pub joined-none-deliverable : (settings : Settings) (pulled : Option ℕ) (packets : Packets) → is_sorted nat_cmp packets ≡ true → AreTaken settings packets → next_joined pulled packets ≡ None
+    → (times : List Packets) (run : Run) → Contains (runs vp8 pulled times packets) run → is_deliverable pulled pulled run ≡ false
+joined-none-deliverable settings pulled packets sorted taken is times =
+    none-deliverable settings pulled times packets taken (next_run pulled packets) (searched settings pulled times pulled packets taken (rising_from packets sorted)) (joined-none settings pulled packets sorted taken is)
 
--- where no run stands, the search finds nothing
-finds-none : (settings : Settings) (pulled : Option ℕ) (packets : Packets) (o : Option Packets) → Searched settings None [] pulled packets o → ((run : Run) → Contains (runs vp8 None [] packets) run → stands pulled run ≡ false) → option_and_then joined o ≡ None
-finds-none settings pulled packets None none no_run = refl
-finds-none settings pulled packets (Some held) next no_run = absurd (true≢false (sym next.beyond ∙ sym (stands-is pulled next.run) ∙ no_run next.run (runs-to vp8 None [] packets next.run next.is)))
-
--- and the engine hands out nothing
-pub stands-none : (settings : Settings) (pulled : Option ℕ) (packets : Packets) → is_sorted nat_cmp packets ≡ true → AreTaken settings packets → ((run : Run) → Contains (runs vp8 None [] packets) run → stands pulled run ≡ false) → next_joined pulled packets ≡ None
-stands-none settings pulled packets sorted taken no_run = finds-none settings pulled packets (next_run pulled packets) (searched settings None [] pulled packets taken (rising_from packets sorted)) no_run
+-- where no run is deliverable, the engine hands out nothing
+pub deliverable-none : (settings : Settings) (pulled : Option ℕ) (packets : Packets) → is_sorted nat_cmp packets ≡ true → AreTaken settings packets → ((run : Run) → Contains (runs vp8 pulled [] packets) run → is_deliverable pulled pulled run ≡ false) → next_joined pulled packets ≡ None
+deliverable-none settings pulled packets sorted taken no_run = finds-none settings pulled [] packets taken (next_run pulled packets) (searched settings pulled [] pulled packets taken (rising_from packets sorted)) no_run

@@ -12,7 +12,7 @@ use Rattle.vrx_core.specs.Run.{runs}
 use Rattle.vrx_core.specs.Deliverable.{answer}
 use Rattle.vrx_core.specs.History.{now}
 use Rattle.vrx_core.specs.Machine.{Reply, ToDatagram, ToPull, Snapshot, latest, last_pulled, frame_of, next_frame, pulled_of, after_datagram, after_pull, next, what_of, reply_now, grown, snapshots, reply}
-use Rattle.vrx_core.specs.StandsFor.{Parts, StandsFor, NoneStands}
+use Rattle.vrx_core.specs.StandsFor.{Parts, StandsFor, NoneDeliverable}
 use Rattle.vrx_core.specs.Step.{IsSound, IsHandled, parts_of, counted, with_datagram, with_pull, next_run, next_joined}
 use Rattle.vrx_core.specs.declared.settings.Settings.{Settings}
 use Rattle.vrx_core.specs.declared.event.Event.{Event}
@@ -21,7 +21,8 @@ use Rattle.vrx_core.specs.declared.reply.Reason.{Reason}
 use Rattle.vrx_core.specs.declared.reply.What.{What}
 use Rattle.vrx_core.specs.declared.reply.Frame.{Frame}
 use Rattle.vrx_core.specs.declared.reply.Pulled.TheVariants.{NotReady}
-use Rattle.vrx_core.proofs.SearchLemmas.{next-answer, joined-none, joined-none-stands, stands-none}
+use Rattle.vrx_core.proofs.FrontLemmas.{plain}
+use Rattle.vrx_core.proofs.SearchLemmas.{next-answer, joined-none, joined-none-deliverable, deliverable-none}
 
 -- what stands after one event more
 pub snapshots-cons : (settings : Settings) (codec : Meaning) (e : Event) (h : List Event) → snapshots settings codec (e ∷ h) ≡ grown settings codec (snapshots settings codec h) e
@@ -132,9 +133,11 @@ frame-is : (parts : Parts) (h : List Event) → IsSound parts → StandsFor vp8 
 frame-is parts h sound stands =
     let past : List Snapshot = snapshots parts.settings vp8 h in
     let s : Snapshot = latest past in
-    next-answer parts.settings s.front parts.last_pulled (map (λ t. t.packets) past) parts.packets sound.sorted sound.taken
-    ∙ ap (λ p. option_map frame_of (answer p s.front (runs vp8 s.front (map (λ t. t.packets) past) parts.packets))) stands.last_pulled
-    ∙ ap (λ ps. option_map frame_of (answer (last_pulled s.pulled) s.front (runs vp8 s.front (map (λ t. t.packets) past) ps))) stands.packets
+    let times : List Packets = map (λ t. t.packets) past in
+    next-answer parts.settings parts.last_pulled times parts.packets sound.sorted sound.taken
+    ∙ ap (λ p. option_map frame_of (answer p p (runs vp8 p times parts.packets))) stands.last_pulled
+    ∙ ap (λ f. option_map frame_of (answer (last_pulled s.pulled) f (runs vp8 f times parts.packets))) (sym (plain parts.settings vp8 h).front)
+    ∙ ap (λ ps. option_map frame_of (answer (last_pulled s.pulled) s.front (runs vp8 s.front times ps))) stands.packets
 
 pub pull-stands : (parts after : Parts) (moment : ℕ) (frame : Option Frame) (h : List Event) → IsSound parts → frame ≡ next_joined parts.last_pulled parts.packets → after ≡ with_pull parts moment frame → StandsFor vp8 parts h → StandsFor vp8 after (Pull moment ∷ h)
 pull-stands parts after moment frame h sound is left stands =
@@ -173,11 +176,11 @@ pull-counts parts after moment frame left = subst (λ (p : Parts). (p.events ≡
   counts None = (refl, refl)
   counts (Some frame) = (refl, refl)
 
--- a pull answers NotReady exactly where no run stands
-pub not_ready-exactly : (parts : Parts) (frame : Option Frame) → IsSound parts → frame ≡ next_joined parts.last_pulled parts.packets → (pulled_of frame ≡ NotReady) ↔ NoneStands vp8 parts
+-- a pull answers NotReady exactly where no run is deliverable
+pub not_ready-exactly : (parts : Parts) (frame : Option Frame) → IsSound parts → frame ≡ next_joined parts.last_pulled parts.packets → (pulled_of frame ≡ NotReady) ↔ NoneDeliverable vp8 parts
 not_ready-exactly parts frame sound is = (
-  λ h. joined-none-stands parts.settings parts.last_pulled parts.packets sound.sorted sound.taken (sym is ∙ no_frame frame h),
-  λ none. ap pulled_of (is ∙ stands-none parts.settings parts.last_pulled parts.packets sound.sorted sound.taken (none None [])),
+  λ h. joined-none-deliverable parts.settings parts.last_pulled parts.packets sound.sorted sound.taken (sym is ∙ no_frame frame h),
+  λ none. ap pulled_of (is ∙ deliverable-none parts.settings parts.last_pulled parts.packets sound.sorted sound.taken (none [])),
 ) where
   no_frame : (o : Option Frame) → pulled_of o ≡ NotReady → o ≡ None
   no_frame None h = refl

@@ -1,5 +1,5 @@
 -- What is taken of a sender's datagram.
-use Rattle.std.proofs.Common.{◌≡◌, ℕ, Bool, true, false, List, Option, Some, None, IfSome, IsSomeAnd, Result, Ok, Err, ok_or, option_and_then, slice_get, refl, sym, ◌∙◌, ap, subst}
+use Rattle.std.proofs.Common.{◌≡◌, ℕ, Bool, true, false, List, Option, Some, None, IsSomeAnd, Result, Ok, Err, ok_or, option_and_then, slice_get, refl, sym, ◌∙◌, ap, subst}
 use Rattle.vrx_num.specs.Extended.{extended}
 use Rattle.std.proofs.lemmas.Option.{same_Some}
 use Rattle.vrx_rtp.specs.Packet.{Packet, read}

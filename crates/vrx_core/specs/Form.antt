@@ -1,18 +1,9 @@
 -- Which datagrams the receiver doesn't take yet. The reason goes away once all forms are taken.
-use Rattle.std.specs.Prelude.{ℕ, ◌%◌, Bool, true, ◌&&◌, not, ◌==◌, nat_lt, List, [], ◌∷◌, length, slice_index, Option, Some, None}
+use Rattle.std.specs.Prelude.{ℕ, Bool, true, not, ◌==◌, nat_lt, List, [], ◌∷◌, length, slice_index, Option, Some, None}
 use Rattle.std.specs.List.{list_any}
 use Rattle.vrx_rtp.specs.Packet.{Packet, read}
 use Rattle.vrx_core.specs.Descriptor.{bit}
 use Rattle.vrx_core.specs.declared.settings.Settings.{Settings}
-
--- a payload begins a frame: bit S is 1 and PID is 0 (RFC 7741 4.2)
-abbrev pub begins_frame : List ℕ → Bool
-begins_frame payload = bit 16 (slice_index payload 0) && (slice_index payload 0 % 8 == 0)
-
--- a payload begins a frame that is no keyframe: bit P of the octet behind the first, the frame's first, is 1 (RFC 7741
--- 4.3)
-abbrev pub begins_delta : List ℕ → Bool
-begins_delta payload = begins_frame payload && bit 1 (slice_index payload 1)
 
 -- what is refused of a plain packet (RFC 3550 5.1, RFC 7741 4.2)
 abbrev pub packet_forms : Settings → Packet → List Bool
@@ -20,9 +11,7 @@ packet_forms settings packet =
     -- another payload type; another SSRC
     not (packet.pt == settings.media_type) ∷ not (packet.ssrc == settings.media_ssrc)
     -- bit X of the payload's first octet
-    ∷ bit 128 (slice_index packet.payload 0)
-    -- for now: a frame that is no keyframe begins here
-    ∷ begins_delta packet.payload ∷ []
+    ∷ bit 128 (slice_index packet.payload 0) ∷ []
 
 -- what is refused of octets as they read: those that read as no plain packet, or a packet's forms
 abbrev pub reading_forms : Settings → Option Packet → List Bool

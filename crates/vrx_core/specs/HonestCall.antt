@@ -1,10 +1,11 @@
 -- The honest call: what a receiver answers where an honest network brings what an honest sender sent.
-use Rattle.std.specs.Prelude.{◌≡◌, ℕ, ◌≤◌, true, List, [], ◌∷◌, slice_get, IsSomeAnd, Option, Some, None}
+use Rattle.std.specs.Prelude.{◌≡◌, ℕ, ◌≤◌, true, List, [], ◌∷◌, slice_get, All, Contains, IfSome, IsSomeAnd, Option, Some, None}
 use Rattle.std.specs.List.{filter_map}
 use Rattle.std.specs.List.Sorted.{IsStrictlyIncreasing}
 use Rattle.vrx_core.specs.Meaning.{Meaning}
 use Rattle.vrx_core.specs.Machine.{Reply, ToDatagram, ToPull, replies}
 use Rattle.vrx_core.specs.Sender.{SentFrame, Sender}
+use Rattle.vrx_core.specs.Chain.{InChain}
 use Rattle.vrx_core.specs.HonestSender.{HonestSender}
 use Rattle.vrx_core.specs.HonestNetwork.{Origin, HonestNetwork}
 use Rattle.vrx_core.specs.Ready.{Ready}
@@ -66,9 +67,14 @@ abbrev pub BeginsWithKey : List Frame → Type 0
 BeginsWithKey [] = Unit {0}
 BeginsWithKey (frame ∷ frames) = frame.key ≡ true
 
+-- each of these frames comes after all frames of its chain and after all its references. Those that were given before
+-- stand in the first list
+abbrev pub AfterReferences : Sender → List ℕ → List ℕ → Type 0
+AfterReferences sender before [] = Unit {0}
+AfterReferences sender before (f ∷ fs) = ((g : ℕ) → InChain sender f g → Contains before g) × IfSome (slice_get sender.frames f) (λ frame. All (λ g. Contains before g) frame.references) × AfterReferences sender (f ∷ before) fs
+
 -- the frames pulled are the sender's, byte for byte, in order, each at most once, from a keyframe on, and after all
--- their references: a keyframe has none. Each pull is answered by the least ready frame, or by NotReady exactly where
--- none is ready
+-- their references. Each pull is answered by the least ready frame, or by NotReady exactly where none is ready
 pub record HonestCall (settings : Settings) (codec : Meaning) (sender : Sender) (events : List Event) (origins : List Origin) (replies : List Reply) : Type 0 where
   -- the place of the frame that each event gives, if it gives one
   pub given : List (Option ℕ)
@@ -76,6 +82,7 @@ pub record HonestCall (settings : Settings) (codec : Meaning) (sender : Sender) 
   pub rising : IsStrictlyIncreasing (places_of given)
   pub sent : AreSent sender (places_of given) (frames_of replies)
   pub from_key : BeginsWithKey (frames_of replies)
+  pub after_references : AfterReferences sender [] (places_of given)
 
 -- every honest call is answered so, whatever the settings and the codec's meaning. The forms that the receiver takes so
 -- far name VP8's bits, whatever the codec

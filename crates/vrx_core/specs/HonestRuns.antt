@@ -1,5 +1,5 @@
 -- The runs of an honest call are the sender's frames.
-use Rattle.std.specs.Prelude.{◌≡◌, ℕ, true, List, [], ◌∷◌, map, slice_get, Contains, Some}
+use Rattle.std.specs.Prelude.{◌≡◌, ℕ, true, List, [], ◌∷◌, map, slice_get, Contains, Some, None}
 use Rattle.vrx_core.specs.Meaning.{Meaning}
 use Rattle.vrx_core.specs.Run.{Run, runs}
 use Rattle.vrx_core.specs.Deliverable.{stands}
@@ -16,7 +16,7 @@ abbrev pub Stands : Meaning → List Snapshot → Run → Type 0
 Stands codec past run = let s : Snapshot = latest past in
     Contains (runs codec s.front (map (λ t. t.packets) past) s.packets) run × (stands (last_pulled s.pulled) run ≡ true)
 
--- a run is frame f of the sender: it has the numbers of its packets, its timestamp, its kind and its bytes
+-- a run is frame f of the sender: it has the numbers of its packets, its timestamp, its kind, its bytes and no layers
 pub record IsFrameRun (sender : Sender) (js : List ℕ) (f : ℕ) (run : Run) : Type 0 where
   pub frame : SentFrame
   pub sent : slice_get sender.frames f ≡ Some frame
@@ -24,6 +24,7 @@ pub record IsFrameRun (sender : Sender) (js : List ℕ) (f : ℕ) (run : Run) : 
   pub ts : run.ts ≡ frame.ts
   pub key : run.key ≡ frame.key
   pub bytes : run.bytes ≡ frame.bytes
+  pub layers : run.layers ≡ None
 
 -- after a history, each run that stands is a frame of the sender, and each frame that stands complete is such a run
 pub record RunsRightly (settings : Settings) (codec : Meaning) (sender : Sender) (h : List Event) (origins : List Origin) : Type 0 where

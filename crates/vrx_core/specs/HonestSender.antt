@@ -1,10 +1,11 @@
--- An honest sender, for given settings and a codec. So far each frame is a keyframe, and each packet is a part of one.
-use Rattle.std.specs.Prelude.{◌≡◌, ◌≢◌, ◌↔◌, ℕ, ◌+◌, ◌<◌, ◌≤◌, true, false, ◌==◌, if◌then◌else◌, List, [], ◌∷◌, map, length, slice_get, Contains, Some, IfSome, Ok}
+-- An honest sender, for given settings and a codec. So far no frame has layers, and each packet is a part of a frame.
+use Rattle.std.specs.Prelude.{◌≡◌, ◌≢◌, ◌↔◌, ℕ, ◌+◌, ◌<◌, ◌≤◌, true, false, ◌==◌, if◌then◌else◌, List, [], ◌∷◌, map, length, slice_get, All, Contains, Some, None, IfSome, Ok}
 use Rattle.vrx_rtp.specs.Packet.{Packet, read}
 use Rattle.vrx_core.specs.Part.{Yes, No, Part}
 use Rattle.vrx_core.specs.Meaning.{Meaning}
 use Rattle.vrx_core.specs.Form.{is_form}
-use Rattle.vrx_core.specs.Sender.{SentFrame, SentPacket, Media, Sender, wire_of}
+use Rattle.vrx_core.specs.Sender.{SentFrame, Media, Sender, wire_of}
+use Rattle.vrx_core.specs.Chain.{InChain}
 use Rattle.vrx_core.specs.declared.settings.Settings.{Settings}
 
 -- what a packet carries: its text (the RTP packet), how the text reads, and what the payload says
@@ -27,13 +28,15 @@ pub record IsMedia (settings : Settings) (codec : Meaning) (wire : ℕ) (carried
   pub form : is_form settings carried.text ≡ false
 
 -- packet i is part k of frame f, which has so many parts: it has the frame's timestamp, has the marker where it is the
--- last part and not else, and begins the frame where it is the first part and not else (RFC 7741 4.1, 4.2)
+-- last part and not else, and begins the frame where it is the first part and not else (RFC 7741 4.1, 4.2); it has no
+-- layers
 pub record IsPart (settings : Settings) (codec : Meaning) (sender : Sender) (f : ℕ) (frame : SentFrame) (count k i : ℕ) (carried : Carried) : Type 0 where
   pub sent : slice_get sender.packets i ≡ Some (Media f k carried.text)
   pub media : IsMedia settings codec (wire_of sender i) carried
   pub timestamp : carried.packet.ts ≡ frame.ts
   pub marker : (carried.packet.marker ≡ true) ↔ (k + 1 ≡ count)
   pub start : carried.part.start ≡ (if k == 0 then Yes else No)
+  pub layers : carried.part.layers ≡ None
 
 -- packet i is part k of the frame, packet i + 1 is part k + 1, and so on
 abbrev pub AreParts : Settings → Meaning → Sender → ℕ → SentFrame → ℕ → ℕ → ℕ → List Carried → Type 0
@@ -48,8 +51,6 @@ pub record Travels (settings : Settings) (codec : Meaning) (sender : Sender) (f 
   pub each : AreParts settings codec sender f frame (length parts) 0 place parts
   pub joins : codec.join (map (λ carried. carried.part) parts) ≡ Ok frame.bytes
   pub key : (frame.key ≡ true) ↔ ((carried : Carried) × Contains parts carried × (carried.part.key ≡ true))
-  -- so far the receiver takes keyframes alone
-  pub only_key : frame.key ≡ true
 
 pub record HonestSender (settings : Settings) (codec : Meaning) (sender : Sender) : Type 0 where
   pub begins : sender.first_wire < 65536
@@ -64,5 +65,7 @@ pub record HonestSender (settings : Settings) (codec : Meaning) (sender : Sender
   pub no_other : (i : ℕ) → i < length sender.packets → (f : ℕ) × (f < length sender.frames) × (place f ≤ i) × (i < place f + length (parts f))
   -- the first frame is a keyframe
   pub from_key : IfSome (slice_get sender.frames 0) (λ frame. frame.key ≡ true)
+  -- each reference of a frame lies in its chain
+  pub references : (f : ℕ) → IfSome (slice_get sender.frames f) (λ frame. All (λ g. InChain sender f g) frame.references)
   -- frames beside each other have different timestamps
   pub apart : (f : ℕ) → IfSome (slice_get sender.frames f) (λ frame. IfSome (slice_get sender.frames (f + 1)) (λ after. frame.ts ≢ after.ts))

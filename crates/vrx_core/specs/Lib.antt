@@ -16,6 +16,7 @@ pub mod Passed
 pub mod PulledRise
 pub mod Reasons
 pub mod Sender
+pub mod Chain
 pub mod WireForm
 pub mod HonestSender
 pub mod HonestNetwork

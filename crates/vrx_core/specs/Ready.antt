@@ -1,12 +1,15 @@
--- A ready frame: one of the sender's frames that a pull may give. So far a frame needs no other frame.
-use Rattle.std.specs.Prelude.{◌≡◌, ℕ, ◌+◌, ◌<◌, ◌≤◌, true, List, [], ◌∷◌, slice_get, All, Some}
+-- A ready frame: one of the sender's frames that a pull may give. So far no frame has layers.
+use Rattle.std.specs.Prelude.{◌≡◌, ℕ, ◌+◌, ◌<◌, ◌≤◌, true, List, [], ◌∷◌, slice_get, All, Contains, Some}
 use Rattle.vrx_core.specs.Meaning.{Meaning}
 use Rattle.vrx_core.specs.Window.{is_available}
+use Rattle.vrx_core.specs.Run.{is_passed}
 use Rattle.vrx_core.specs.Machine.{latest, snapshots}
 use Rattle.vrx_core.specs.Sender.{SentFrame, Sender, Spans, wire_of}
+use Rattle.vrx_core.specs.Chain.{IsRuleReference}
 use Rattle.vrx_core.specs.HonestNetwork.{Origin, taken}
 use Rattle.vrx_core.specs.declared.settings.Settings.{Settings}
 use Rattle.vrx_core.specs.declared.event.Event.{Event}
+use Rattle.vrx_core.specs.declared.reply.Frame.{Frame}
 
 -- the receiver knows packet i by the number n: its numbers are the sender's and one constant, which the first packet
 -- taken fixes (its number is its wire number and 65,536). The packets taken stand the newest first
@@ -34,7 +37,15 @@ pub record StandsComplete (settings : Settings) (codec : Meaning) (sender : Send
   pub available : (n : ℕ) → first ≤ n → n ≤ last → is_available n (latest (snapshots settings codec h)).packets ≡ true
   pub beyond : All (λ frame. frame.last < first) (latest (snapshots settings codec h)).pulled
 
--- it is ready where it needs no other frame, besides
+-- frame g was pulled, and it is evident that a frame which begins with this number follows it: every number between them
+-- is passed
+pub record Follows (settings : Settings) (codec : Meaning) (sender : Sender) (h : List Event) (origins : List Origin) (g first : ℕ) : Type 0 where
+  pub frame : Frame
+  pub pulled : Contains (latest (snapshots settings codec h)).pulled frame
+  pub numbered : HasNumbers sender (taken settings codec h origins) g frame.first frame.last
+  pub evident : (n : ℕ) → frame.last < n → n < first → is_passed (latest (snapshots settings codec h)).front n ≡ true
+
+-- it is ready where, besides, it follows each of its rule references: a keyframe has none
 pub record Ready (settings : Settings) (codec : Meaning) (sender : Sender) (h : List Event) (origins : List Origin) (f : ℕ) : Type 0 where
   pub complete : StandsComplete settings codec sender h origins f
-  pub key : complete.frame.key ≡ true
+  pub follows : (g : ℕ) → IsRuleReference sender f g → Follows settings codec sender h origins g complete.first

@@ -3,7 +3,7 @@ use Rattle.std.specs.Prelude.{◌≡◌, ◌≤◌, ◌<◌, ◌⊎◌, ℕ, fal
 use Rattle.vrx_core.specs.Meaning.{Meaning}
 use Rattle.vrx_core.specs.Window.{Packets}
 use Rattle.vrx_core.specs.Run.{Run, runs}
-use Rattle.vrx_core.specs.Deliverable.{stands}
+use Rattle.vrx_core.specs.Deliverable.{is_deliverable}
 use Rattle.vrx_core.specs.History.{now}
 use Rattle.vrx_core.specs.Machine.{latest, last_pulled, snapshots}
 use Rattle.vrx_core.specs.declared.settings.Settings.{Settings}
@@ -26,10 +26,10 @@ pub record StandsFor (codec : Meaning) (parts : Parts) (h : List Event) : Type 0
   pub packets : parts.packets ≡ (latest (snapshots parts.settings codec h)).packets
   pub last_pulled : parts.last_pulled ≡ last_pulled (latest (snapshots parts.settings codec h)).pulled
 
--- no run of the packets stands, whatever was passed and available before: a VP8 packet says itself whether it begins a
--- frame
-abbrev pub NoneStands : Meaning → Parts → Type 0
-NoneStands codec parts = (front : Option ℕ) (times : List Packets) (run : Run) → Contains (runs codec front times parts.packets) run → stands parts.last_pulled run ≡ false
+-- no run of the packets is deliverable, where all numbers up to the last one pulled are passed, whatever was available
+-- before: a VP8 packet says itself whether it begins a frame
+abbrev pub NoneDeliverable : Meaning → Parts → Type 0
+NoneDeliverable codec parts = (times : List Packets) (run : Run) → Contains (runs codec parts.last_pulled times parts.packets) run → is_deliverable parts.last_pulled parts.last_pulled run ≡ false
 
 -- a payload type is 64 to 95, which RTCP takes on a shared port (RFC 5761 4), or has more than seven bits
 abbrev pub IsBadType : ℕ → Type 0

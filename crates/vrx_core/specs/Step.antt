@@ -1,10 +1,11 @@
 -- One event over the engine's parts: what the machine does to what the engine keeps.
-use Rattle.std.specs.Prelude.{◌≡◌, ℕ, nat_lt, take, drop, if◌then◌else◌, ◌+◌, ◌≤◌, ◌*◌, max, Bool, true, false, not, ◌&&◌, ◌==◌, List, [], ◌∷◌, Option, Some, None, IfSome, Result, Ok, Err}
+use Rattle.std.specs.Prelude.{◌≡◌, ℕ, nat_lt, take, drop, if◌then◌else◌, ◌+◌, ◌≤◌, ◌*◌, ◌%◌, max, Bool, true, false, not, ◌&&◌, ◌||◌, ◌==◌, List, [], ◌∷◌, slice_index, Option, Some, None, IfSome, Result, Ok, Err}
 use Rattle.std.specs.List.{flat_map}
 use Rattle.std.specs.Option.{option_map, option_map_or, option_and_then, option_or}
 use Rattle.std.specs.Ordering.{nat_cmp}
 use Rattle.std.specs.FinMap.Entries.{is_sorted}
-use Rattle.vrx_core.specs.Form.{begins_frame, is_form}
+use Rattle.vrx_core.specs.Descriptor.{bit}
+use Rattle.vrx_core.specs.Form.{is_form}
 use Rattle.vrx_core.specs.Window.{Content, Media, Packets, newest_with, placed}
 use Rattle.vrx_rtp.specs.Packet.{Packet, read}
 use Rattle.vrx_core.specs.Run.{text_of, ◌>>=◌}
@@ -61,14 +62,37 @@ pub record IsSound (parts : Parts) : Type 0 where
   pub few : parts.events ≤ 1048576
   pub reach : IfSome parts.newest (λ newest. (65536 ≤ newest) × (newest ≤ 131072 + 32768 * parts.events))
 
--- a number lies beyond the last frame pulled: the test that says of a run that it stands, on a number
+-- a number lies beyond the last frame pulled
 abbrev pub is_beyond : Option ℕ → ℕ → Bool
 is_beyond None n = true
 is_beyond (Some last) n = nat_lt last n
 
+-- a number comes right behind the last frame pulled, where one was pulled
+abbrev pub follows : Option ℕ → ℕ → Bool
+follows None n = false
+follows (Some last) n = n == last + 1
+
+-- a frame that begins with this number is due: it lies beyond the last frame pulled, and is a keyframe or comes right
+-- behind that frame
+abbrev pub is_due : Option ℕ → ℕ → Bool → Bool
+is_due pulled n key = is_beyond pulled n && (key || follows pulled n)
+
+-- a payload begins a frame: bit S is 1 and PID is 0 (RFC 7741 4.2)
+abbrev pub begins_frame : List ℕ → Bool
+begins_frame payload = bit 16 (slice_index payload 0) && (slice_index payload 0 % 8 == 0)
+
+-- a payload that begins a frame begins a keyframe: bit P of the frame's first octet, which stands behind the descriptor's
+-- one octet, is 0 (RFC 7741 4.3)
+abbrev pub is_key : List ℕ → Bool
+is_key payload = slice_index payload 1 % 2 == 0
+
 -- the packet of an entry
 abbrev pub packet_in : ℕ × Content → Option Packet
 packet_in entry = option_and_then read (text_of entry.1)
+
+-- an entry that begins a frame begins a keyframe
+abbrev pub key_in : ℕ × Content → Bool
+key_in entry = option_map_or (λ packet. is_key packet.payload) (packet_in entry) false
 
 -- a packet goes on the run that begins with number n and has this timestamp, as its packet of this place: its number
 -- and its timestamp are so, and it begins a frame where it is the first, and not else
@@ -91,15 +115,15 @@ run_length (entry ∷ entries) = do
   packet ← packet_in entry
   run_from entry.0 packet.ts 0 (entry ∷ entries)
 
--- the same, where that lies beyond the last frame pulled
-abbrev pub standing_length : Option ℕ → Packets → Option ℕ
-standing_length pulled [] = None
-standing_length pulled (entry ∷ entries) = if is_beyond pulled entry.0 then run_length (entry ∷ entries) else None
+-- the same, where that is due
+abbrev pub due_length : Option ℕ → Packets → Option ℕ
+due_length pulled [] = None
+due_length pulled (entry ∷ entries) = if is_due pulled entry.0 (key_in entry) then run_length (entry ∷ entries) else None
 
--- the entries of the first run that lies beyond the last frame pulled
+-- the entries of the first run that is due
 abbrev pub next_run : Option ℕ → Packets → Option Packets
 next_run pulled [] = None
-next_run pulled (entry ∷ entries) = option_or (option_map (λ length. take length (entry ∷ entries)) (standing_length pulled (entry ∷ entries))) (next_run pulled entries)
+next_run pulled (entry ∷ entries) = option_or (option_map (λ length. take length (entry ∷ entries)) (due_length pulled (entry ∷ entries))) (next_run pulled entries)
 
 -- what an entry adds to its frame: the payload behind the descriptor's one octet (RFC 7741 4.2)
 abbrev pub body_in : ℕ × Content → List ℕ
@@ -115,7 +139,7 @@ abbrev pub joined : Packets → Option Frame
 joined [] = None
 joined (entry ∷ entries) = do
   packet ← packet_in entry
-  Some (record { first = entry.0; last = last_of entry entries; ts = packet.ts; key = true; bytes = flat_map body_in (entry ∷ entries) })
+  Some (record { first = entry.0; last = last_of entry entries; ts = packet.ts; key = key_in entry; bytes = flat_map body_in (entry ∷ entries) })
 
 -- the frame that a pull gives
 abbrev pub next_joined : Option ℕ → Packets → Option Frame

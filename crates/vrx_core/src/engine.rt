@@ -4,7 +4,7 @@ ghost use Rattle.std.specs.Prelude.{◌≡◌, ◌+◌, ◌<◌, ◌≤◌, ◌�
 ghost use Rattle.vrx_core.specs.Descriptor.{vp8};
 ghost use Rattle.vrx_core.specs.Machine.{Reply, ToDatagram, ToPull, what_of, pulled_of, reply};
 ghost use Rattle.vrx_core.specs.Verdict.{verdict as verdict_of};
-ghost use Rattle.vrx_core.specs.StandsFor.{StandsFor, NoneStands, IsBadType};
+ghost use Rattle.vrx_core.specs.StandsFor.{StandsFor, NoneDeliverable, IsBadType};
 ghost use Rattle.vrx_core.specs.Window.{newest_with as newest_of};
 ghost use Rattle.vrx_core.specs.Step.{IsSound, IsHandled, counted, with_pull, next_run, next_joined};
 ghost use Rattle.vrx_core.specs.declared.event.Event.{Event};
@@ -141,15 +141,16 @@ impl Engine {
     /// Gives the decoder the next frame, at this moment in milliseconds.
     ///
     /// `NoMemory` changes nothing, the clock and the count included. Where no frame is ready it isn't answered:
-    /// `NotReady` comes exactly where no run of the packets stands beyond the last frame pulled, for now that each run is
-    /// a keyframe.
+    /// `NotReady` comes exactly where no run of the packets is deliverable: none is a keyframe that lies beyond the last
+    /// frame pulled, and none begins at the number right behind that frame's last. Else the deliverable run with the
+    /// least first number is given.
     pub fn pull(&mut self, moment: u64) -> Result<Pulled, NoMemory>
         requires { self.old.events < 1048576 }
         ensures stands { (h : List Event) → StandsFor vp8 self.old h →
             OnOk result (StandsFor vp8 self.new (Event.Pull moment ∷ h)) }
         ensures reply { (h : List Event) → StandsFor vp8 self.old h →
             IfOk result (λ pulled. ToPull pulled ≡ reply self.old.settings vp8 h (Event.Pull moment)) }
-        ensures not_ready_exactly { IfOk result (λ pulled. (pulled ≡ Pulled.NotReady) ↔ NoneStands vp8 self.old) }
+        ensures not_ready_exactly { IfOk result (λ pulled. (pulled ≡ Pulled.NotReady) ↔ NoneDeliverable vp8 self.old) }
         ensures counts { OnOk result ((self.new.events ≡ self.old.events + 1) ×
             (self.new.clock ≡ max self.old.clock moment)) }
         ensures settings { self.new.settings ≡ self.old.settings }

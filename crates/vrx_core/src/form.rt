@@ -1,11 +1,11 @@
-//! Which datagrams the receiver takes so far: all parts of VP8 frames but those that begin a delta frame.
+//! Which datagrams the receiver takes so far: all parts of VP8 frames without extension octets.
 
 ghost use Rattle.std.specs.Prelude.{◌≡◌, ◌+◌, ◌*◌, ◌/◌, ◌%◌, ◌<◌, ◌≤◌, ◌↔◌, ◌==◌, true, false, not, length, Some, IfSome, IsNone, MatchOption};
 ghost use Rattle.std.specs.List.{list_any};
 ghost use Rattle.vrx_rtp.specs.Packet.{read as packet_read};
 ghost use Rattle.vrx_rtp.specs.View.{view};
 ghost use Rattle.vrx_core.specs.Descriptor.{bit as bit_of};
-ghost use Rattle.vrx_core.specs.Form.{begins_frame as begins_frame_of, packet_forms, is_form};
+ghost use Rattle.vrx_core.specs.Form.{packet_forms, is_form};
 
 use crate::settings::Settings;
 use vrx_rtp::{RtpView, read};
@@ -17,23 +17,14 @@ const MOST_OCTETS: usize = 9_216;
 const LEAST_OCTETS: usize = 14;
 
 /// The bit of an octet that has this value.
-fn bit(octet: u8, value: u8) -> bool
+pub(crate) fn bit(octet: u8, value: u8) -> bool
     requires { 0 < value }
     ensures { result ≡ bit_of value octet }
 {
     octet / value % 2 == 1
 }
 
-/// Whether a payload begins a frame (RFC 7741 4.2: S = 1, PID = 0).
-pub(crate) fn begins_frame(payload: &[u8]) -> bool
-    requires { 0 < length payload.now }
-    ensures { result ≡ begins_frame_of payload.now }
-{
-    bit(payload[0], 16) && payload[0] % 8 == 0
-}
-
-/// Whether a plain packet is of the stream, has no extension octets (RFC 7741 4.2: X = 0), and begins no delta frame
-/// (4.3: P = 1).
+/// Whether a plain packet is of the stream, and has no extension octets (RFC 7741 4.2: X = 0).
 fn is_taken_packet(settings: &Settings, packet: &RtpView<'_>) -> bool
     requires { 2 ≤ length packet.now.payload.now }
     ensures { result ≡ not (list_any (λ refused. refused) (packet_forms settings.now (view packet.now))) }
@@ -41,7 +32,6 @@ fn is_taken_packet(settings: &Settings, packet: &RtpView<'_>) -> bool
     packet.pt == settings.media_type
         && packet.ssrc == settings.media_ssrc
         && !bit(packet.payload[0], 128)
-        && !(begins_frame(packet.payload) && bit(packet.payload[1], 1))
 }
 
 /// The packet that a datagram is, where the receiver takes its form. It takes no memory.

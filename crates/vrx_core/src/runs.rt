@@ -3,11 +3,11 @@
 ghost use Rattle.std.specs.Prelude.{◌≡◌, ◌+◌, ◌<◌, ◌≤◌, ◌&&◌, not, ◌==◌, if◌then◌else◌, false, length, drop, take, Some, None, IfSome, IfOk, IsOk, MatchOption};
 ghost use Rattle.std.specs.List.{flat_map};
 ghost use Rattle.vrx_rtp.specs.View.{view};
-ghost use Rattle.vrx_core.specs.Form.{begins_frame as begins_frame_of, is_form};
-ghost use Rattle.vrx_core.specs.Step.{AreTaken, is_beyond, packet_in, body_in, goes_on as goes_on_of, run_length as run_length_of, standing_length as standing_length_of, next_run as next_run_of, joined as joined_of, next_joined};
+ghost use Rattle.vrx_core.specs.Form.{is_form};
+ghost use Rattle.vrx_core.specs.Step.{AreTaken, is_beyond, follows as follows_of, is_due as is_due_of, begins_frame as begins_frame_of, is_key as is_key_of, packet_in, key_in, body_in, goes_on as goes_on_of, run_length as run_length_of, due_length as due_length_of, next_run as next_run_of, joined as joined_of, next_joined};
 ghost use Rattle.vrx_core.specs.Held.{entry_of, entries};
 
-use crate::form::{begins_frame, taken_form};
+use crate::form::{bit, taken_form};
 use crate::held::Held;
 use crate::reply::{Frame, FrameBytes};
 use crate::settings::Settings;
@@ -46,6 +46,48 @@ fn lies_beyond(pulled: Option<u64>, number: u64) -> bool
         None => true,
         Some(last) => last < number,
     }
+}
+
+/// Whether a number comes right behind the last frame pulled, where one was pulled.
+fn follows(pulled: Option<u64>, number: u64) -> bool
+    ensures { result ≡ follows_of pulled number }
+{
+    match pulled {
+        None => false,
+        Some(last) => last < number && number - last == 1,
+    }
+}
+
+/// Whether a frame that begins with this number is due: it lies beyond the last frame pulled, and is a keyframe or comes
+/// right behind that frame.
+fn is_due(pulled: Option<u64>, number: u64, key: bool) -> bool
+    ensures { result ≡ is_due_of pulled number key }
+{
+    lies_beyond(pulled, number) && (key || follows(pulled, number))
+}
+
+/// Whether a payload begins a frame (RFC 7741 4.2: S = 1, PID = 0).
+fn begins_frame(payload: &[u8]) -> bool
+    requires { 0 < length payload.now }
+    ensures { result ≡ begins_frame_of payload.now }
+{
+    bit(payload[0], 16) && payload[0] % 8 == 0
+}
+
+/// Whether a payload that begins a frame begins a keyframe (RFC 7741 4.3: P = 0).
+fn is_key(payload: &[u8]) -> bool
+    requires { 2 ≤ length payload.now }
+    ensures { result ≡ is_key_of payload.now }
+{
+    payload[1] % 2 == 0
+}
+
+/// Whether a held packet that begins a frame begins a keyframe.
+fn says_key(settings: &Settings, held: &Held) -> bool
+    requires { is_form settings.now held.now.text ≡ false }
+    ensures { result ≡ key_in (entry_of held.now) }
+{
+    is_key(packet_of(settings, held).payload)
 }
 
 /// Whether a payload stands at this place of a run: the first begins a frame, and no other does.
@@ -96,21 +138,21 @@ fn run_length(settings: &Settings, held: &[Held]) -> Option<usize>
     None
 }
 
-/// The same, where the first lies beyond the last frame pulled.
-fn standing_length(settings: &Settings, held: &[Held], pulled: Option<u64>) -> Option<usize>
+/// The same, where that run is due.
+fn due_length(settings: &Settings, held: &[Held], pulled: Option<u64>) -> Option<usize>
     requires { AreTaken settings.now (entries held.now) }
-    ensures value { result ≡ standing_length_of pulled (entries held.now) }
+    ensures value { result ≡ due_length_of pulled (entries held.now) }
     ensures within { IfSome result (λ n. (0 < n) × (n ≤ length held.now)) }
 {
     let first = held.first()?;
-    if lies_beyond(pulled, first.number) {
+    if is_due(pulled, first.number, says_key(settings, first)) {
         run_length(settings, held)
     } else {
         None
     }
 }
 
-/// The packets of the first run that lies beyond the last frame pulled.
+/// The packets of the first run that is due.
 fn next_run<'a>(settings: &Settings, held: &'a [Held], pulled: Option<u64>) -> Option<&'a [Held]>
     requires { AreTaken settings.now (entries held.now) }
     ensures value { MatchOption result (next_run_of pulled (entries held.now) ≡ None) (λ run.
@@ -120,7 +162,7 @@ fn next_run<'a>(settings: &Settings, held: &'a [Held], pulled: Option<u64>) -> O
 {
     for place in 0..held.len() {
         let (_, rest) = held.split_at(place);
-        match standing_length(settings, rest, pulled) {
+        match due_length(settings, rest, pulled) {
             Some(length) => {
                 let (run, _) = rest.split_at(length);
                 return Some(run);
@@ -154,13 +196,12 @@ fn joined(alloc: Global, settings: &Settings, run: &[Held]) -> Result<Frame, NoM
         first: run[0].number,
         last: run[run.len() - 1].number,
         ts: packet_of(settings, &run[0]).ts,
-        // so far each frame is a keyframe, since no packet that begins a delta frame is taken
-        key: true,
+        key: says_key(settings, &run[0]),
         bytes: FrameBytes::from_vec(octets),
     })
 }
 
-/// The first frame beyond the last one pulled. Memory is taken only where there is one.
+/// The first frame that is due. Memory is taken only where there is one.
 pub(crate) fn next_frame(
     alloc: Global,
     settings: &Settings,

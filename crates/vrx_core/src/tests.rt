@@ -9,13 +9,19 @@ const SETTINGS: Settings = Settings {
     from_ssrc: 11,
 };
 
-// A keyframe of one packet with this wire number: marker 1, type 96, timestamp 0, source 10; S = 1, PID = 0; two
-// octets of the frame.
-fn keyframe(wire: u16) -> [u8; 15] {
+// A frame of one packet with this wire number and timestamp: marker 1, type 96, source 10; S = 1, PID = 0; two octets of
+// the frame, of which the first has bit P.
+fn one_packet(wire: u16, ts: u16, head: u8, octet: u8) -> [u8; 15] {
     let [high, low] = wire.to_be_bytes();
+    let [ts_high, ts_low] = ts.to_be_bytes();
     [
-        0x80, 0xe0, high, low, 0, 0, 0, 0, 0, 0, 0, 0x0a, 0x10, 0x00, 0xaa,
+        0x80, 0xe0, high, low, 0, 0, ts_high, ts_low, 0, 0, 0, 0x0a, 0x10, head, octet,
     ]
+}
+
+// A keyframe of one packet with this wire number.
+fn keyframe(wire: u16) -> [u8; 15] {
+    one_packet(wire, 0, 0x00, 0xaa)
 }
 
 fn datagram(engine: &mut Engine, moment: u64, bytes: &[u8]) -> Result<What, Fail> {
@@ -95,7 +101,6 @@ fn other_forms_are_refused_and_only_counted(rt: HostRuntime) -> Result<(), Fail>
         (6, 1, 0xe1), // type 97
         (4, 11, 0x0b), // source 11
         (3, 12, 0x90), // X = 1
-        (0, 13, 0x01), // S = 1, PID = 0, P = 1: a delta frame begins
     ] {
         let count = engine.events();
         let what = datagram(&mut engine, moment, &changed(at, octet))?;
@@ -103,7 +108,7 @@ fn other_forms_are_refused_and_only_counted(rt: HostRuntime) -> Result<(), Fail>
         assert_eq!(rt; engine.events(), count + 1);
         assert_eq!(rt; engine.now(), 7);
     }
-    assert_eq!(rt; engine.events(), 5);
+    assert_eq!(rt; engine.events(), 4);
     // the first taken is in the cycle 1 still: no other number was taken
     assert_eq!(rt;
         datagram(&mut engine, 8, &keyframe(1))?,
@@ -195,6 +200,47 @@ fn parts_in_any_order_join_to_one_frame(rt: HostRuntime) -> Result<(), Fail> {
         }
     }
     assert_eq!(rt; pull_first(&mut engine)?, None);
+    Ok(())
+}
+
+// The first number of the frame that a pull gives, and whether it is a keyframe.
+fn pull_key(engine: &mut Engine) -> Result<Option<(u64, bool)>, Fail> {
+    match pull(engine, 0)? {
+        Pulled::NotReady => Ok(None),
+        Pulled::Frame(frame) => Ok(Some((frame.first, frame.key))),
+    }
+}
+
+#[test]
+fn a_delta_frame_follows_the_frame_before(rt: HostRuntime) -> Result<(), Fail> {
+    let mut engine = Engine::new(rt.alloc(), SETTINGS)?;
+    for (bytes, number) in [
+        (keyframe(65_534), 131_070),
+        (one_packet(65_535, 3_000, 0x01, 0xbb), 131_071),
+        (one_packet(1, 9_000, 0x01, 0xdd), 131_073),
+    ] {
+        assert_eq!(rt; datagram(&mut engine, 0, &bytes)?, What::Media(number));
+    }
+    for want in [Some((131_070, true)), Some((131_071, false)), None] {
+        assert_eq!(rt; pull_key(&mut engine)?, want);
+    }
+    assert_eq!(rt;
+        datagram(&mut engine, 0, &one_packet(0, 6_000, 0x01, 0xcc))?,
+        What::Media(131_072)
+    );
+    match pull(&mut engine, 0)? {
+        Pulled::NotReady => return Err("no frame")?,
+        Pulled::Frame(frame) => {
+            assert_eq!(rt; frame.first, 131_072);
+            assert_eq!(rt; frame.last, 131_072);
+            assert_eq!(rt; frame.ts, 6_000);
+            assert!(rt; !frame.key);
+            assert_eq!(rt; frame.bytes.as_slice(), [0x01, 0xcc].as_slice());
+        }
+    }
+    for want in [Some((131_073, false)), None] {
+        assert_eq!(rt; pull_key(&mut engine)?, want);
+    }
     Ok(())
 }
 

@@ -1,10 +1,12 @@
 -- Whole replays, worked by hand: the definitions on captures.
 use Rattle.std.proofs.Common.{◌≡◌, ℕ, zero, suc, List, [], ◌∷◌, ◌++◌, codes, refl, true, false, None, append_assoc, append-nil, arith}
 use Rattle.std.specs.Fmt.{decimal}
+use Rattle.std.proofs.lemmas.List.Elements.{All-nil}
 use Rattle.vrx_core.specs.Descriptor.{vp8}
 use Rattle.vrx_core.specs.Machine.{snapshots, reply}
 use Rattle.vrx_core.specs.Sender.{SentFrame, Media, Sender}
 use Rattle.vrx_core.specs.Part.{Yes, No}
+use Rattle.vrx_core.specs.Chain.{InChain}
 use Rattle.vrx_core.specs.HonestSender.{Carried, IsPart, Travels, HonestSender}
 use Rattle.vrx_core.specs.HonestNetwork.{FromSender, Elsewhere, taken}
 use Rattle.vrx_core.specs.declared.settings.Settings.{Settings}
@@ -76,7 +78,7 @@ abbrev third_text : List ℕ
 third_text = 128 ∷ 224 ∷ 0 ∷ 3 ∷ 0 ∷ 0 ∷ 0 ∷ 0 ∷ 0 ∷ 0 ∷ 0 ∷ 10 ∷ 0 ∷ 204 ∷ []
 
 abbrev keyframe : SentFrame
-keyframe = record { bytes = 0 ∷ 170 ∷ 187 ∷ 204 ∷ []; key = true; ts = 0 }
+keyframe = record { bytes = 0 ∷ 170 ∷ 187 ∷ 204 ∷ []; key = true; ts = 0; references = [] }
 
 abbrev sender : Sender
 sender = record { first_wire = 1; frames = keyframe ∷ []; packets = Media 0 0 first_text ∷ Media 0 1 second_text ∷ Media 0 2 third_text ∷ [] }
@@ -114,6 +116,7 @@ first_is = record {
   timestamp = refl;
   marker = (λ e. cc, λ e. absurd (omega arith));
   start = refl;
+  layers = refl;
 }
 
 second_is : IsPart settings vp8 sender 0 keyframe 3 1 1 second_part
@@ -123,6 +126,7 @@ second_is = record {
   timestamp = refl;
   marker = (λ e. cc, λ e. absurd (omega arith));
   start = refl;
+  layers = refl;
 }
 
 third_is : IsPart settings vp8 sender 0 keyframe 3 2 2 third_part
@@ -132,6 +136,7 @@ third_is = record {
   timestamp = refl;
   marker = (λ e. refl, λ e. refl);
   start = refl;
+  layers = refl;
 }
 
 -- the frame travels in them
@@ -142,7 +147,6 @@ keyframe_travels = record {
   each = (first_is, (second_is, (third_is, tt)));
   joins = refl;
   key = (λ e. (first_part, (0, omega arith, refl), refl), λ e. refl);
-  only_key = refl;
 }
 
 sender-honest : HonestSender settings vp8 sender
@@ -155,6 +159,7 @@ sender-honest = record {
   in_order = λ f g less within. absurd (omega arith);
   no_other = λ i within. (0, omega arith, omega arith, omega arith);
   from_key = refl;
+  references = elim [ zero ↦ All-nil (λ g. InChain sender 0 g) | suc f ↦ tt ];
   apart = elim [ zero ↦ tt | suc f ↦ tt ];
 }
 

@@ -62,7 +62,8 @@ pub fn run<S: Source, K: Sink>(
         (result ≡ Status.Done) ⊎ (result ≡ Status.NoMemory)) }
 
     // The honest call: where an honest network took the datagrams of the capture from one honest sender, the frames
-    // pulled are that sender's.
+    // pulled are that sender's, byte for byte, in order, each at most once, from a keyframe on, after all their
+    // references, and notready comes exactly where no frame is ready.
     ensures honest { IsReplay (map string_bytes words.now) → IfSome (S.left source.old) (λ capture.
         (sender : Sender) (origins : List Origin) → IsHonestCapture capture sender origins →
         HonestLines capture sender origins result (K.taken sink.old) (K.taken sink.new)) }

@@ -29,10 +29,19 @@ fn source_of(
     Ok(MemSource::new(bytes, fails.to_vec(alloc)?, most))
 }
 
-/// How a replay of a capture ends, and what the sink took.
-fn outcome(alloc: Global, head: &str, lines: &str, most: usize) -> Result<(Status, Vec<u8>), Fail> {
+/// How a replay of a capture ends, and what the sink took, which has room for so many octets. A read gives at most
+/// `most` of them, and a write takes at most `piece`.
+fn outcome_in(
+    alloc: Global,
+    head: &str,
+    lines: &str,
+    most: usize,
+    room: usize,
+    piece: usize,
+) -> Result<(Status, Vec<u8>), Fail> {
     let mut source = source_of(alloc, head, lines, most, &[])?;
-    let mut sink = MemSink::new(alloc, 1_000, Vec::new(alloc), 7)?;
+    let piece = if piece == 0 { 1 } else { piece };
+    let mut sink = MemSink::new(alloc, room, Vec::new(alloc), piece)?;
     let status = run(
         alloc,
         replay_word(alloc)?.as_slice(),
@@ -40,6 +49,31 @@ fn outcome(alloc: Global, head: &str, lines: &str, most: usize) -> Result<(Statu
         &mut sink,
     );
     Ok((status, sink.written().to_vec(alloc)?))
+}
+
+/// The same of a short capture.
+fn outcome(alloc: Global, head: &str, lines: &str, most: usize) -> Result<(Status, Vec<u8>), Fail> {
+    outcome_in(alloc, head, lines, most, 1_000, 7)
+}
+
+/// The same of a long capture, in long pieces.
+fn long_outcome(alloc: Global, lines: &str) -> Result<(Status, Vec<u8>), Fail> {
+    outcome_in(alloc, HEAD, lines, 100_000, 200_000, 100_000)
+}
+
+/// Adds a datagram to a capture: a packet of type 96 with the timestamp 0 and the media SSRC 10.
+fn add_packet(
+    alloc: Global,
+    lines: &mut String,
+    moment: u64,
+    marker: bool,
+    wire: u16,
+    payload: &str,
+) -> Result<(), Fail> {
+    let octet = if marker { "e0" } else { "60" };
+    let line = format!(in alloc; "d {moment} 80{octet}{wire:04x}000000000000000a{payload}\n")?;
+    lines.push_str(line.as_str())?;
+    Ok(())
 }
 
 /// Captures of which each packet is a whole keyframe: the lines behind the settings, and the transcript.
@@ -60,9 +94,9 @@ const CALLS: [(&str, &str); 6] = [
         "\n# a comment\nd 0 80E00001000000000000000A1000AA\n\np 1\n",
         "4 media 65537\n6 frame 65537 65537 key 0 00aa\n",
     ),
-    // A delta frame, a packet at half the number space, and one below the window.
+    // Bit X, a packet at half the number space, and one below the window.
     (
-        "d 0 80e00001000000000000000a1001aa\nd 0 80e00001000000000000000a1000aa\nd 0 80e08001000000000000000a1000aa\nd 0 80e00801000000000000000a1000aa\nd 0 80e00001000000000000000a1000aa\n",
+        "d 0 80e00001000000000000000a9000aa\nd 0 80e00001000000000000000a1000aa\nd 0 80e08001000000000000000a1000aa\nd 0 80e00801000000000000000a1000aa\nd 0 80e00001000000000000000a1000aa\n",
         "2 drop Form\n3 media 65537\n4 drop TooFar\n5 media 67585\n6 drop TooOld\n",
     ),
 ];
@@ -81,7 +115,7 @@ fn calls_are_replayed(rt: HostRuntime) -> Result<(), Fail> {
 
 /// Keyframes in several packets, whole and spoilt: the name of the case, the lines behind the settings, and the
 /// transcript. The number of the first packet taken is its wire number and 65,536.
-const RUNS: [(&str, &str, &str); 29] = [
+const RUNS: [(&str, &str, &str); 30] = [
     // Each number is taken; the pull finds all of 65537 to 65539, and joins what lies behind the descriptors.
     (
         "parts in the order 3, 1, 2",
@@ -148,7 +182,7 @@ const RUNS: [(&str, &str, &str); 29] = [
         "d 0 80e00001000000000000000a1100aa\nd 0 80e00003000000000000000a1700cc\np 0\n",
         "2 media 65537\n3 media 65539\n4 notready\n",
     ),
-    // Neither is a start: S = 0, or PID = 1. So the odd octets 01 behind tell of no delta frame, and join.
+    // Neither is a start: S = 0, or PID = 1. So the odd octets 01 behind say nothing of the kind, and join.
     (
         "odd octets behind the start",
         "d 0 80600001000000000000000a1000aa\nd 0 80600002000000000000000a0001\nd 0 80e00003000000000000000a1101\np 0\n",
@@ -160,16 +194,23 @@ const RUNS: [(&str, &str, &str); 29] = [
         "d 0 80600001000000000000000a7800aa\nd 0 80e00002000000000000000a68bb\np 0\n",
         "2 media 65537\n3 media 65538\n4 frame 65537 65538 key 0 00aabb\n",
     ),
-    // S = 1, PID = 0 and an odd octet behind: 2 isn't taken, with the marker or without, and 1 and 3 are no stretch.
+    // S = 1 and PID = 0: 2 is a start, whatever is behind. 1 to 2 and 1 to 3 have two starts, and 2 to 3 two markers. 2
+    // alone is a run, but a delta frame, and nothing was pulled.
     (
         "the start of a delta frame in the middle",
         "d 0 80600001000000000000000a1000aa\nd 0 80e00002000000000000000a1001bb\nd 0 80e00003000000000000000a00cc\nd 0 80600002000000000000000a1001bb\np 0\n",
-        "2 media 65537\n3 drop Form\n4 media 65539\n5 drop Form\n6 notready\n",
+        "2 media 65537\n3 media 65538\n4 media 65539\n5 drop Repeat\n6 notready\n",
     ),
-    // The refused one left nothing under its number, so the part that follows isn't a repeat.
+    // 2 is available, as a start with the marker; what comes under its number is a repeat, and 1 has no end.
     (
         "a part behind the start of a delta frame of its number",
         "d 0 80600001000000000000000a1000aa\nd 0 80e00002000000000000000a1001bb\nd 0 80e00002000000000000000a00bb\np 0\n",
+        "2 media 65537\n3 media 65538\n4 drop Repeat\n5 notready\n",
+    ),
+    // Bit X: the refused one left nothing under its number, so the part that follows isn't a repeat.
+    (
+        "a part behind a refused one of its number",
+        "d 0 80600001000000000000000a1000aa\nd 0 80e00002000000000000000a8000bb\nd 0 80e00002000000000000000a00bb\np 0\n",
         "2 media 65537\n3 drop Form\n4 media 65538\n5 frame 65537 65538 key 0 00aabb\n",
     ),
     // Beside 67584 the window begins at 65537: all three are in it.
@@ -267,6 +308,301 @@ fn runs_are_handed_out(rt: HostRuntime) -> Result<(), Fail> {
             assert_eq!(rt; text.as_slice(), transcript.as_bytes(), "{name}");
         }
     }
+    Ok(())
+}
+
+/// Calls with delta frames: the name of the case, the lines behind the settings, and the transcript. In the comments, 1
+/// is 65537, and so on.
+const DELTAS: [(&str, &str, &str); 26] = [
+    // Each follows the one before it; 131072 is missing at the third pull, and 131073 doesn't follow 131071.
+    (
+        "a call round the wrap",
+        "d 0 80e0fffe000000000000000a1000aa\nd 33 80e0ffff00000bb80000000a1001bb\nd 99 80e00001000023280000000a1001dd\np 100\np 100\np 100\nd 120 80e00000000017700000000a1001cc\np 121\np 121\n",
+        "2 media 131070\n3 media 131071\n4 media 131073\n5 frame 131070 131070 key 0 00aa\n6 frame 131071 131071 delta 3000 01bb\n7 notready\n8 media 131072\n9 frame 131072 131072 delta 6000 01cc\n10 frame 131073 131073 delta 9000 01dd\n",
+    ),
+    // 2 never comes, so 3 doesn't follow 1, nor does 4; 5 is a keyframe, and 6 follows it.
+    (
+        "a lost frame, up to the next keyframe",
+        "d 0 80e00001000000000000000a1000aa\np 0\nd 0 80e00003000000000000000a1001cc\nd 0 80e00004000000000000000a1001dd\np 0\nd 0 80e00005000000000000000a1000ee\np 0\nd 0 80e00006000000000000000a1001ff\np 0\np 0\n",
+        "2 media 65537\n3 frame 65537 65537 key 0 00aa\n4 media 65539\n5 media 65540\n6 notready\n7 media 65541\n8 frame 65541 65541 key 0 00ee\n9 media 65542\n10 frame 65542 65542 delta 0 01ff\n11 notready\n",
+    ),
+    // Before the first pull that gives a frame nothing is passed; behind the pull of 2, 1 doesn't stand.
+    (
+        "a delta frame first of all",
+        "d 0 80e00001000000000000000a1001aa\np 0\nd 0 80e00002000000000000000a1000bb\np 0\np 0\n",
+        "2 media 65537\n3 notready\n4 media 65538\n5 frame 65538 65538 key 0 00bb\n6 notready\n",
+    ),
+    // 2 follows 1 once 1 was pulled.
+    (
+        "a delta frame before the keyframe that it follows",
+        "d 0 80e00002000000000000000a1001bb\np 0\nd 0 80e00001000000000000000a1000aa\np 0\np 0\np 0\n",
+        "2 media 65538\n3 notready\n4 media 65537\n5 frame 65537 65537 key 0 00aa\n6 frame 65538 65538 delta 0 01bb\n7 notready\n",
+    ),
+    // 2 to 4 is a run once 3 came.
+    (
+        "a delta frame in three parts, in the order 3, 1, 2",
+        "d 0 80e00001000000000000000a1000aa\np 0\nd 0 80e00004000000000000000a00dd\nd 0 80600002000000000000000a1001bb\np 0\nd 0 80600003000000000000000a00cc\np 0\np 0\n",
+        "2 media 65537\n3 frame 65537 65537 key 0 00aa\n4 media 65540\n5 media 65538\n6 notready\n7 media 65539\n8 frame 65538 65540 delta 0 01bbccdd\n9 notready\n",
+    ),
+    // 3 follows 2, and 2 follows 1; both go out once 2 came.
+    (
+        "a late packet mends the gap",
+        "d 0 80e00001000000000000000a1000aa\np 0\nd 0 80e00003000000000000000a1001cc\np 0\nd 0 80e00002000000000000000a1001bb\np 0\np 0\np 0\n",
+        "2 media 65537\n3 frame 65537 65537 key 0 00aa\n4 media 65539\n5 notready\n6 media 65538\n7 frame 65538 65538 delta 0 01bb\n8 frame 65539 65539 delta 0 01cc\n9 notready\n",
+    ),
+    // 2 to 3 lacks its end until behind the pulls of 4 and 5: then it is a run that doesn't stand.
+    (
+        "a keyframe behind a gap",
+        "d 0 80e00001000000000000000a1000aa\np 0\nd 0 80600002000000000000000a1001bb\nd 0 80e00004000000000000000a1000dd\nd 0 80e00005000000000000000a1001ee\np 0\np 0\nd 0 80e00003000000000000000a00cc\np 0\n",
+        "2 media 65537\n3 frame 65537 65537 key 0 00aa\n4 media 65538\n5 media 65540\n6 media 65541\n7 frame 65540 65540 key 0 00dd\n8 frame 65541 65541 delta 0 01ee\n9 media 65539\n10 notready\n",
+    ),
+    // Both are deliverable at the second pull, and 2 is less than 3.
+    (
+        "a delta frame before a keyframe that came earlier",
+        "d 0 80e00001000000000000000a1000aa\np 0\nd 0 80e00003000000000000000a1000cc\nd 0 80e00002000000000000000a1001bb\np 0\np 0\np 0\n",
+        "2 media 65537\n3 frame 65537 65537 key 0 00aa\n4 media 65539\n5 media 65538\n6 frame 65538 65538 delta 0 01bb\n7 frame 65539 65539 key 0 00cc\n8 notready\n",
+    ),
+    // 3 and 4 aren't beyond 5; 6 follows it.
+    (
+        "frames before the last one pulled",
+        "d 0 80e00005000000000000000a1000ee\np 0\nd 0 80e00004000000000000000a1001dd\nd 0 80e00003000000000000000a1000cc\np 0\nd 0 80e00006000000000000000a1001ff\np 0\np 0\n",
+        "2 media 65541\n3 frame 65541 65541 key 0 00ee\n4 media 65540\n5 media 65539\n6 notready\n7 media 65542\n8 frame 65542 65542 delta 0 01ff\n9 notready\n",
+    ),
+    // 2 to 3 is a run once 3 came, and 4 follows it then; 5, a keyframe, is beyond both.
+    (
+        "two delta frames, of which the second is whole first",
+        "d 0 80e00001000000000000000a1000aa\np 0\nd 0 80600002000000000000000a1001bb\nd 0 80e00004000000000000000a1001dd\np 0\nd 0 80e00003000000000000000a00cc\nd 0 80e00005000000000000000a1000ee\np 0\np 0\np 0\n",
+        "2 media 65537\n3 frame 65537 65537 key 0 00aa\n4 media 65538\n5 media 65540\n6 notready\n7 media 65539\n8 media 65541\n9 frame 65538 65539 delta 0 01bbcc\n10 frame 65540 65540 delta 0 01dd\n11 frame 65541 65541 key 0 00ee\n",
+    ),
+    // A pull gives one frame, though four are whole.
+    (
+        "four frames, and then a pull for each",
+        "d 0 80e00004000000000000000a1001dd\nd 0 80e00003000000000000000a1001cc\nd 0 80e00002000000000000000a1001bb\nd 0 80e00001000000000000000a1000aa\np 0\np 0\np 0\np 0\np 0\n",
+        "2 media 65540\n3 media 65539\n4 media 65538\n5 media 65537\n6 frame 65537 65537 key 0 00aa\n7 frame 65538 65538 delta 0 01bb\n8 frame 65539 65539 delta 0 01cc\n9 frame 65540 65540 delta 0 01dd\n10 notready\n",
+    ),
+    // The keyframe's last number is 2, which is the one before 3.
+    (
+        "a delta frame behind a keyframe of two packets",
+        "d 0 80600001000000000000000a1000aa\nd 0 80e00002000000000000000a00bb\nd 0 80e00003000000000000000a1001cc\np 0\np 0\n",
+        "2 media 65537\n3 media 65538\n4 media 65539\n5 frame 65537 65538 key 0 00aabb\n6 frame 65539 65539 delta 0 01cc\n",
+    ),
+    // 1 alone is no run, so nothing was pulled, and 3 follows nothing.
+    (
+        "a delta frame behind a keyframe that lost its end",
+        "d 0 80600001000000000000000a1000aa\nd 0 80e00003000000000000000a1001cc\np 0\n",
+        "2 media 65537\n3 media 65539\n4 notready\n",
+    ),
+    // 2 is available but has no start; it isn't passed, so 3 doesn't follow.
+    (
+        "a number between, which is no frame",
+        "d 0 80e00001000000000000000a1000aa\np 0\nd 0 80e00002000000000000000a00bb\nd 0 80e00003000000000000000a1001cc\np 0\n",
+        "2 media 65537\n3 frame 65537 65537 key 0 00aa\n4 media 65538\n5 media 65539\n6 notready\n",
+    ),
+    // 2 to 3 has two starts, 2 alone no marker; 3 alone is a run, and doesn't follow 1.
+    (
+        "two starts behind the last frame pulled",
+        "d 0 80e00001000000000000000a1000aa\np 0\nd 0 80600002000000000000000a1001bb\nd 0 80e00003000000000000000a1001cc\np 0\n",
+        "2 media 65537\n3 frame 65537 65537 key 0 00aa\n4 media 65538\n5 media 65539\n6 notready\n",
+    ),
+    // 2 alone is a run; 3 has no start, and 4 doesn't follow 2.
+    (
+        "a marker in the middle of a delta frame",
+        "d 0 80e00001000000000000000a1000aa\np 0\nd 0 80e00002000000000000000a1001bb\nd 0 80e00003000000000000000a00cc\nd 0 80e00004000000000000000a1001dd\np 0\np 0\n",
+        "2 media 65537\n3 frame 65537 65537 key 0 00aa\n4 media 65538\n5 media 65539\n6 media 65540\n7 frame 65538 65538 delta 0 01bb\n8 notready\n",
+    ),
+    // 2 alone has no marker, 3 alone no start, and 2 to 3 has two timestamps.
+    (
+        "a timestamp that changes in a delta frame",
+        "d 0 80e00001000000000000000a1000aa\np 0\nd 0 80600002000000010000000a1001bb\nd 0 80e00003000000020000000a00cc\np 0\n",
+        "2 media 65537\n3 frame 65537 65537 key 0 00aa\n4 media 65538\n5 media 65539\n6 notready\n",
+    ),
+    // Start and marker part them.
+    (
+        "a keyframe and a delta frame with one timestamp",
+        "d 0 80e00001000000070000000a1000aa\nd 0 80e00002000000070000000a1001bb\np 0\np 0\n",
+        "2 media 65537\n3 media 65538\n4 frame 65537 65537 key 7 00aa\n5 frame 65538 65538 delta 7 01bb\n",
+    ),
+    // The octet behind the start's descriptor is 00 and then 01; those behind the others say nothing.
+    (
+        "the start says the kind",
+        "d 0 80600001000000000000000a1000aa\nd 0 80e00002000000000000000a0001\nd 0 80600003000000000000000a1001cc\nd 0 80e00004000000000000000a0000\np 0\np 0\n",
+        "2 media 65537\n3 media 65538\n4 media 65539\n5 media 65540\n6 frame 65537 65538 key 0 00aa01\n7 frame 65539 65540 delta 0 01cc00\n",
+    ),
+    // fe has the least significant bit 0, ff has it 1; 78 has R, N, S and R, and PID = 0.
+    (
+        "the other bits say nothing of the kind",
+        "d 0 80e00001000000000000000a10fe\nd 0 80e00002000000000000000a78ff\nd 0 80e00003000000000000000a1003\nd 0 80e00004000000000000000a7802\np 0\np 0\np 0\np 0\n",
+        "2 media 65537\n3 media 65538\n4 media 65539\n5 media 65540\n6 frame 65537 65537 key 0 fe\n7 frame 65538 65538 delta 0 ff\n8 frame 65539 65539 delta 0 03\n9 frame 65540 65540 key 0 02\n",
+    ),
+    // S = 0, and S = 1 with PID = 1: neither is a start, so 2 and 3 are no runs.
+    (
+        "odd octets where no frame begins",
+        "d 0 80e00001000000000000000a1000aa\np 0\nd 0 80e00002000000000000000a0001bb\nd 0 80e00003000000000000000a1101cc\np 0\n",
+        "2 media 65537\n3 frame 65537 65537 key 0 00aa\n4 media 65538\n5 media 65539\n6 notready\n",
+    ),
+    // Beside 67585 the window begins at 65538. 65537 has left it, and is passed all the same.
+    (
+        "a window that has left the last frame pulled",
+        "d 0 80e00001000000000000000a1000aa\np 0\nd 0 80e00002000000000000000a1001bb\nd 0 80600801000000000000000a00ee\np 0\nd 0 80e00003000000000000000a1001cc\np 0\n",
+        "2 media 65537\n3 frame 65537 65537 key 0 00aa\n4 media 65538\n5 media 67585\n6 frame 65538 65538 delta 0 01bb\n7 media 65539\n8 frame 65539 65539 delta 0 01cc\n",
+    ),
+    // Beside 67586 the window begins at 65539: 65538 is gone for good, and 65539 doesn't follow 65537.
+    (
+        "a window that has left the frame that follows",
+        "d 0 80e00001000000000000000a1000aa\np 0\nd 0 80e00002000000000000000a1001bb\nd 0 80e00003000000000000000a1001cc\nd 0 80600802000000000000000a00ee\np 0\nd 0 80e00002000000000000000a1001bb\np 0\n",
+        "2 media 65537\n3 frame 65537 65537 key 0 00aa\n4 media 65538\n5 media 65539\n6 media 67586\n7 notready\n8 drop TooOld\n9 notready\n",
+    ),
+    // A pull takes no packet away, and what is available stays as it came first.
+    (
+        "packets once more",
+        "d 0 80e00001000000000000000a1000aa\nd 0 80e00002000000000000000a1001bb\nd 0 80e00002000000000000000a1000ff\np 0\nd 0 80e00001000000000000000a1001ff\np 0\nd 0 80e00002000000000000000a1001bb\np 0\n",
+        "2 media 65537\n3 media 65538\n4 drop Repeat\n5 frame 65537 65537 key 0 00aa\n6 drop Repeat\n7 frame 65538 65538 delta 0 01bb\n8 drop Repeat\n9 notready\n",
+    ),
+    // Bit X of the second is 1: it is refused, and leaves a gap; a packet of its number is taken later.
+    (
+        "a delta frame with an extension",
+        "d 0 80e00001000000000000000a1000aa\np 0\nd 0 80e00002000000000000000a908001bb\nd 0 80e00003000000000000000a1001cc\np 0\nd 0 80e00002000000000000000a1001bb\np 0\np 0\n",
+        "2 media 65537\n3 frame 65537 65537 key 0 00aa\n4 drop Form\n5 media 65539\n6 notready\n7 media 65538\n8 frame 65538 65538 delta 0 01bb\n9 frame 65539 65539 delta 0 01cc\n",
+    ),
+    // A jump of 32,767: 98304 stands, doesn't follow, and a keyframe behind it does go out.
+    (
+        "a jump behind the last frame pulled",
+        "d 0 80e00001000000000000000a1000aa\np 0\nd 0 80e08000000000000000000a1001bb\np 0\nd 0 80e08001000000000000000a1000cc\np 0\np 0\n",
+        "2 media 65537\n3 frame 65537 65537 key 0 00aa\n4 media 98304\n5 notready\n6 media 98305\n7 frame 98305 98305 key 0 00cc\n8 notready\n",
+    ),
+];
+
+#[test]
+fn delta_frames_come_in_order(rt: HostRuntime) -> Result<(), Fail> {
+    for (name, lines, transcript) in DELTAS {
+        for most in [1, 5, 100_000] {
+            let (status, text) = outcome(rt.alloc(), HEAD, lines, most)?;
+            assert_eq!(rt; status, Status::Done, "{name}");
+            assert_eq!(rt; text.as_slice(), transcript.as_bytes(), "{name}");
+        }
+    }
+    Ok(())
+}
+
+// Packets 0 to 2999 have the numbers from 65536 on. Each three are a frame, each seventh frame a keyframe. Beside the
+// newest, 68535, the window begins at 66488, packet 952, in the middle of a frame. The next keyframe begins at packet
+// 966, of 21 * 46; the frame behind it follows.
+#[test]
+fn a_decoder_may_pull_late(rt: HostRuntime) -> Result<(), Fail> {
+    let mut lines = String::new(rt.alloc());
+    let mut transcript = String::new(rt.alloc());
+    for wire in 0..3_000_u16 {
+        let payload = if wire % 21 == 0 {
+            "1000"
+        } else if wire % 3 == 0 {
+            "1001"
+        } else {
+            "00aa"
+        };
+        add_packet(rt.alloc(), &mut lines, 0, wire % 3 == 2, wire, payload)?;
+        let k = u64::from(wire) + 2;
+        let n = u64::from(wire) + 65_536;
+        let line = format!(in rt.alloc(); "{k} media {n}\n")?;
+        transcript.push_str(line.as_str())?;
+    }
+    lines.push_str("p 0\np 0\n")?;
+    transcript.push_str("3002 frame 66502 66504 key 0 00aaaa\n")?;
+    transcript.push_str("3003 frame 66505 66507 delta 0 01aaaa\n")?;
+    let (status, text) = long_outcome(rt.alloc(), lines.as_str())?;
+    assert_eq!(rt; status, Status::Done);
+    assert!(rt; text.as_slice() == transcript.as_bytes());
+    Ok(())
+}
+
+// The first is taken. The others are repeats, though they would begin a delta frame, and leave it as it is.
+#[test]
+fn one_number_is_taken_once(rt: HostRuntime) -> Result<(), Fail> {
+    let mut lines = String::new(rt.alloc());
+    let mut transcript = String::new(rt.alloc());
+    add_packet(rt.alloc(), &mut lines, 0, true, 1, "1000aa")?;
+    transcript.push_str("2 media 65537\n")?;
+    for k in 3..10_002_u64 {
+        add_packet(rt.alloc(), &mut lines, k, true, 1, "1001")?;
+        let line = format!(in rt.alloc(); "{k} drop Repeat\n")?;
+        transcript.push_str(line.as_str())?;
+    }
+    lines.push_str("p 0\np 0\n")?;
+    transcript.push_str("10002 frame 65537 65537 key 0 00aa\n10003 notready\n")?;
+    let (status, text) = long_outcome(rt.alloc(), lines.as_str())?;
+    assert_eq!(rt; status, Status::Done);
+    assert!(rt; text.as_slice() == transcript.as_bytes());
+    Ok(())
+}
+
+// Half of the space away from the newest there is no number. Had a jump moved the newest, the next packet would be too
+// old.
+#[test]
+fn jumps_of_half_the_numbers_move_nothing(rt: HostRuntime) -> Result<(), Fail> {
+    let mut lines = String::new(rt.alloc());
+    let mut transcript = String::new(rt.alloc());
+    for wire in 0..500_u16 {
+        add_packet(rt.alloc(), &mut lines, 0, true, wire, "1000")?;
+        let half = wire.wrapping_add(32_768);
+        add_packet(rt.alloc(), &mut lines, 0, true, half, "1000")?;
+        lines.push_str("p 0\n")?;
+        let k = 3 * u64::from(wire) + 2;
+        let n = u64::from(wire) + 65_536;
+        let jump = k + 1;
+        let pull = k + 2;
+        let line = format!(in rt.alloc();
+            "{k} media {n}\n{jump} drop TooFar\n{pull} frame {n} {n} key 0 00\n"
+        )?;
+        transcript.push_str(line.as_str())?;
+    }
+    let (status, text) = long_outcome(rt.alloc(), lines.as_str())?;
+    assert_eq!(rt; status, Status::Done);
+    assert!(rt; text.as_slice() == transcript.as_bytes());
+    Ok(())
+}
+
+// A moment moves the clock alone, and the clock no reply: a keyframe and 299 delta frames go out in their order.
+#[test]
+fn moments_may_go_back(rt: HostRuntime) -> Result<(), Fail> {
+    let mut lines = String::new(rt.alloc());
+    let mut transcript = String::new(rt.alloc());
+    for wire in 0..300_u16 {
+        let (payload, kind) = if wire == 0 {
+            ("1000", "key 0 00")
+        } else {
+            ("1001", "delta 0 01")
+        };
+        let moment = 999_999_999_999 - 1_000_000 * u64::from(wire);
+        add_packet(rt.alloc(), &mut lines, moment, true, wire, payload)?;
+        lines.push_str("p 0\n")?;
+        let k = 2 * u64::from(wire) + 2;
+        let n = u64::from(wire) + 65_536;
+        let pull = k + 1;
+        let line = format!(in rt.alloc(); "{k} media {n}\n{pull} frame {n} {n} {kind}\n")?;
+        transcript.push_str(line.as_str())?;
+    }
+    let (status, text) = long_outcome(rt.alloc(), lines.as_str())?;
+    assert_eq!(rt; status, Status::Done);
+    assert!(rt; text.as_slice() == transcript.as_bytes());
+    Ok(())
+}
+
+// 14 octets and 9,202 more are the most; one more is too many.
+#[test]
+fn a_datagram_has_at_most_9216_octets(rt: HostRuntime) -> Result<(), Fail> {
+    let mut octets = String::new(rt.alloc());
+    for _ in 0..9_202 {
+        octets.push_str("aa")?;
+    }
+    let octets = octets.as_str();
+    let lines = format!(in rt.alloc();
+        "d 0 80e00001000000000000000a1000{octets}aa\nd 0 80e00001000000000000000a1000{octets}\np 0\n"
+    )?;
+    let transcript = format!(in rt.alloc();
+        "2 drop Form\n3 media 65537\n4 frame 65537 65537 key 0 00{octets}\n"
+    )?;
+    let (status, text) = long_outcome(rt.alloc(), lines.as_str())?;
+    assert_eq!(rt; status, Status::Done);
+    assert!(rt; text.as_slice() == transcript.as_bytes());
     Ok(())
 }
 

@@ -1,5 +1,5 @@
 use Rattle.std.proofs.Common.{◌≡◌, ◌∙◌, ap, sym, subst, drop, None}
-use Rattle.vrx_core.specs.Step.{AreTaken, standing_length}
+use Rattle.vrx_core.specs.Step.{AreTaken, due_length}
 use Rattle.vrx_core.specs.Held.{entries}
 use Rattle.vrx_core.proofs.HeldLemmas.{taken-take, taken-next, next-behind}
 use Rattle.vrx_core.proofs.runs.next_run.Goals as goal
@@ -11,7 +11,7 @@ returns-in-Some-clause-taken c =
 
 pub loop-place-preserved : goal.loop-place-preserved
 loop-place-preserved c =
-    let none : standing_length c.args.pulled (entries (drop c.loop-place.place c.args.held.now)) ≡ None = ap (λ held. standing_length c.args.pulled (entries held)) (sym c.split_at.ensures.back) ∙ sym c.standing_length.ensures.value ∙ c.in-None.is in
+    let none : due_length c.args.pulled (entries (drop c.loop-place.place c.args.held.now)) ≡ None = ap (λ held. due_length c.args.pulled (entries held)) (sym c.split_at.ensures.back) ∙ sym c.due_length.ensures.value ∙ c.in-None.is in
     record {
       next = next-behind c.args.pulled c.loop-place.place c.args.held.now none ∙ c.loop-place.invariant.next;
       taken = taken-next c.args.settings.now c.loop-place.place c.args.held.now c.loop-place.invariant.taken;
