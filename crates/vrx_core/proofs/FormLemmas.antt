@@ -2,20 +2,30 @@
 use Rattle.std.proofs.Common.{◌≡◌, ℕ, ◌+◌, ◌%◌, ◌≤◌, Bool, true, false, not, ◌&&◌, if◌then◌else◌, List, [], ◌∷◌, length, drop, refl, sym, ◌∙◌, ap, subst, arith}
 use Rattle.std.specs.Prelude.{Option, Some, None, Ok, nat_lt, slice_index, ◌==◌}
 use Rattle.std.specs.List.{list_any}
+use Rattle.std.specs.Option.{option_map}
 use Rattle.std.specs.Result.{result_ok}
-use Rattle.std.proofs.lemmas.Bool.{ltb-false, eqb-true, or_parts, true≢false}
-use Rattle.std.proofs.lemmas.Option.{none-some, same_Some, cond_some}
-use Rattle.vrx_rtp.specs.Packet.{Packet, read}
+use Rattle.std.proofs.lemmas.Bool.{ltb-false, le-ltb, eqb-true, or_parts, true≢false}
+use Rattle.std.proofs.lemmas.Option.{none-some, same_Some}
+use Rattle.vrx_rtp.specs.Packet.{Packet}
+use Rattle.vrx_rtp.specs.Reading.{read}
 use Rattle.vrx_core.specs.Part.{Yes, No, Part}
 use Rattle.vrx_core.specs.Descriptor.{bit, octet_if, ◌>>=◌, fields_behind, part_of, read_part}
 use Rattle.vrx_core.specs.Form.{reading_forms, is_form}
 use Rattle.vrx_core.specs.Step.{begins_frame, is_key}
 use Rattle.vrx_core.specs.declared.settings.Settings.{Settings}
 
--- a plain packet has twelve octets fewer in its payload
-pub length-payload : (octets : List ℕ) (p : Packet) → read octets ≡ Some p → length octets ≡ 12 + length p.payload
-length-payload (first ∷ second ∷ s1 ∷ s0 ∷ t3 ∷ t2 ∷ t1 ∷ t0 ∷ c3 ∷ c2 ∷ c1 ∷ c0 ∷ payload) p h = let payload_is = ap (λ (q : Packet). length q.payload) (cond_some _ _ p h).1 in omega arith
-length-payload octets p h = absurd (none-some p h)
+-- the payload of a packet whose first octet is 128 is all that stands behind the twelve octets of its header
+plain_payload : (second s1 s0 t3 t2 t1 t0 c3 c2 c1 c0 : ℕ) (payload : List ℕ) → option_map (λ (q : Packet). q.payload) (read (128 ∷ second ∷ s1 ∷ s0 ∷ t3 ∷ t2 ∷ t1 ∷ t0 ∷ c3 ∷ c2 ∷ c1 ∷ c0 ∷ payload)) ≡ Some payload
+plain_payload second s1 s0 t3 t2 t1 t0 c3 c2 c1 c0 payload = rw (le-ltb (length payload) 0 (omega arith)) refl
+
+-- so such a packet has twelve octets fewer in its payload
+pub length-payload : (octets : List ℕ) (p : Packet) → slice_index octets 0 ≡ 128 → read octets ≡ Some p → length octets ≡ 12 + length p.payload
+length-payload (first ∷ second ∷ s1 ∷ s0 ∷ t3 ∷ t2 ∷ t1 ∷ t0 ∷ c3 ∷ c2 ∷ c1 ∷ c0 ∷ payload) p plain h =
+    let whole : read (128 ∷ second ∷ s1 ∷ s0 ∷ t3 ∷ t2 ∷ t1 ∷ t0 ∷ c3 ∷ c2 ∷ c1 ∷ c0 ∷ payload) ≡ Some p = subst (λ (n : ℕ). read (n ∷ second ∷ s1 ∷ s0 ∷ t3 ∷ t2 ∷ t1 ∷ t0 ∷ c3 ∷ c2 ∷ c1 ∷ c0 ∷ payload) ≡ Some p) plain h in
+    let payload_is : payload ≡ p.payload = same_Some payload p.payload (sym (plain_payload second s1 s0 t3 t2 t1 t0 c3 c2 c1 c0 payload) ∙ ap (option_map (λ (q : Packet). q.payload)) whole) in
+    let same : length payload ≡ length p.payload = ap length payload_is in
+    omega arith
+length-payload octets p plain h = absurd (none-some p h)
 
 -- what is said of a payload: it has a frame's octet behind the descriptor's first, and no extension octets
 pub record SaysPart (payload : List ℕ) : Type 0 where
@@ -38,9 +48,9 @@ not_refused false h = absurd (true≢false h)
 
 module _ (settings : Settings) (octets : List ℕ) where
   -- what isn't refused, as it reads, is such a packet
-  from_reading : (o : Option Packet) → read octets ≡ o → length octets ≤ 9216 → 14 ≤ length octets → list_any (λ b. b) (reading_forms settings o) ≡ false → IsTakenPacket settings octets
-  from_reading None is short long h = absurd (true≢false h)
-  from_reading (Some p) is short long h =
+  from_reading : (o : Option Packet) → read octets ≡ o → length octets ≤ 9216 → 14 ≤ length octets → slice_index octets 0 ≡ 128 → list_any (λ b. b) (reading_forms settings o) ≡ false → IsTakenPacket settings octets
+  from_reading None is short long plain h = absurd (true≢false h)
+  from_reading (Some p) is short long plain h =
       let type = or_parts (not (p.pt == settings.media_type)) _ h in
       let source = or_parts (not (p.ssrc == settings.media_ssrc)) _ type.1 in
       let extension = or_parts (bit 128 (slice_index p.payload 0)) false source.1 in
@@ -49,7 +59,7 @@ module _ (settings : Settings) (octets : List ℕ) where
         reads = is;
         type = eqb-true _ _ (not_refused _ type.0);
         source = eqb-true _ _ (not_refused _ source.0);
-        payload = record { long = (let len = length-payload octets p is in omega arith); no_extension = extension.0 };
+        payload = record { long = (let len = length-payload octets p plain is in omega arith); no_extension = extension.0 };
         size = short;
       }
 
@@ -58,7 +68,8 @@ module _ (settings : Settings) (octets : List ℕ) where
   taken_packet h =
       let size = or_parts (nat_lt 9216 (length octets)) _ h in
       let long = or_parts (nat_lt (length octets) 14) _ size.1 in
-      from_reading (read octets) refl (ltb-false 9216 (length octets) size.0) (ltb-false (length octets) 14 long.0) long.1
+      let plain = or_parts (not (slice_index octets 0 == 128)) _ long.1 in
+      from_reading (read octets) refl (ltb-false 9216 (length octets) size.0) (ltb-false (length octets) 14 long.0) (eqb-true (slice_index octets 0) 128 (not_refused _ plain.0)) plain.1
 
 -- what a payload's part is: a start where it begins a frame, and then key where the frame's first octet says so; it has
 -- no layers, and its body is what stands behind the first octet

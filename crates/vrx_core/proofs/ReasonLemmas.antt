@@ -3,7 +3,8 @@ use Rattle.std.proofs.Common.{◌≡◌, ℕ, ◌+◌, ◌<◌, ◌≤◌, Bool,
 use Rattle.std.proofs.lemmas.Bool.{both_ways, leb-true, le-leb, false_from_ne_true}
 use Rattle.vrx_num.specs.Extended.{IsHalfAway, extended}
 use Rattle.vrx_num.proofs.ExtendedLemmas.{extended-none, extended-half_away}
-use Rattle.vrx_rtp.specs.Packet.{Packet, read}
+use Rattle.vrx_rtp.specs.Packet.{Packet}
+use Rattle.vrx_rtp.specs.Reading.{read}
 use Rattle.vrx_core.specs.Form.{is_form}
 use Rattle.vrx_core.specs.Window.{Content, Media, Packets, is_available}
 use Rattle.vrx_core.specs.Verdict.{refused, number_of, is_too_old, ◌>>=◌, ◌>>◌}

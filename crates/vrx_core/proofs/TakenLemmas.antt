@@ -2,7 +2,8 @@
 use Rattle.std.proofs.Common.{◌≡◌, ℕ, Bool, true, false, List, Option, Some, None, IsSomeAnd, Result, Ok, Err, ok_or, option_and_then, slice_get, refl, sym, ◌∙◌, ap, subst}
 use Rattle.vrx_num.specs.Extended.{extended}
 use Rattle.std.proofs.lemmas.Option.{same_Some}
-use Rattle.vrx_rtp.specs.Packet.{Packet, read}
+use Rattle.vrx_rtp.specs.Packet.{Packet}
+use Rattle.vrx_rtp.specs.Reading.{read}
 use Rattle.vrx_core.specs.Meaning.{Meaning}
 use Rattle.vrx_core.specs.Window.{Content, Packets, is_available}
 use Rattle.vrx_core.specs.Window as window

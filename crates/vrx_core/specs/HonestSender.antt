@@ -1,6 +1,7 @@
 -- An honest sender, for given settings and a codec. So far no frame has layers, and each packet is a part of a frame.
 use Rattle.std.specs.Prelude.{◌≡◌, ◌≢◌, ◌↔◌, ℕ, ◌+◌, ◌<◌, ◌≤◌, true, false, ◌==◌, if◌then◌else◌, List, [], ◌∷◌, map, length, slice_get, All, Contains, Some, None, IfSome, Ok}
-use Rattle.vrx_rtp.specs.Packet.{Packet, read}
+use Rattle.vrx_rtp.specs.Packet.{Packet}
+use Rattle.vrx_rtp.specs.Reading.{read}
 use Rattle.vrx_core.specs.Part.{Yes, No, Part}
 use Rattle.vrx_core.specs.Meaning.{Meaning}
 use Rattle.vrx_core.specs.Form.{is_form}
@@ -14,12 +15,13 @@ pub record Carried : Type 0 where
   pub packet : Packet
   pub part : Part
 
--- a media packet of the stream, under this sequence number: its text has at most 9,216 octets and reads as a plain RTP
--- packet (no padding, extension or CSRC), with the media type and the media SSRC; its payload isn't empty and is read
--- by the codec (RFC 3550 5.1); and it is of a form that the receiver takes so far
+-- a media packet of the stream, under this sequence number: its text has at most 9,216 octets and reads as an RTP packet
+-- without padding, with the media type and the media SSRC; its payload isn't empty and is read by the codec (RFC 3550
+-- 5.1); and it is of a form that the receiver takes so far
 pub record IsMedia (settings : Settings) (codec : Meaning) (wire : ℕ) (carried : Carried) : Type 0 where
   pub size : length carried.text ≤ 9216
   pub reads : read carried.text ≡ Some carried.packet
+  pub no_padding : carried.packet.padding ≡ 0
   pub number : carried.packet.seq ≡ wire
   pub type : carried.packet.pt ≡ settings.media_type
   pub source : carried.packet.ssrc ≡ settings.media_ssrc

@@ -1,7 +1,7 @@
 -- When a datagram is taken, and when each reason refuses it.
 use Rattle.std.specs.Prelude.{◌≡◌, ◌↔◌, ℕ, ◌+◌, ◌<◌, ◌≤◌, true, false, List, Option, Some, IfSome, IsSomeAnd, Result, Ok, Err}
 use Rattle.vrx_num.specs.Extended.{IsHalfAway}
-use Rattle.vrx_rtp.specs.Packet.{read}
+use Rattle.vrx_rtp.specs.Reading.{read}
 use Rattle.vrx_core.specs.Form.{is_form}
 use Rattle.vrx_core.specs.Window.{Content, Media, Packets, is_available}
 use Rattle.vrx_core.specs.Verdict.{number_of, verdict}

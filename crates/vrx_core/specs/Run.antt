@@ -3,7 +3,8 @@ use Rattle.std.specs.Prelude.{ℕ, zero, suc, ◌+◌, ◌-◌, Bool, true, fals
 use Rattle.std.specs.List.{list_any, list_all, filter_map, flat_map}
 use Rattle.std.specs.Option.{option_map, option_map_or}
 use Rattle.std.specs.Result.{result_ok}
-use Rattle.vrx_rtp.specs.Packet.{Packet, read}
+use Rattle.vrx_rtp.specs.Packet.{Packet}
+use Rattle.vrx_rtp.specs.Reading.{read}
 use Rattle.vrx_core.specs.Part.{Start, Yes, No, ByNeighbour, Layers, Part}
 use Rattle.vrx_core.specs.Meaning.{Meaning}
 use Rattle.vrx_core.specs.Window.{Content, Media, Fec, Empty, Packets, at, is_available}

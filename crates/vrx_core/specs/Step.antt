@@ -7,7 +7,8 @@ use Rattle.std.specs.FinMap.Entries.{is_sorted}
 use Rattle.vrx_core.specs.Descriptor.{bit}
 use Rattle.vrx_core.specs.Form.{is_form}
 use Rattle.vrx_core.specs.Window.{Content, Media, Packets, newest_with, placed}
-use Rattle.vrx_rtp.specs.Packet.{Packet, read}
+use Rattle.vrx_rtp.specs.Packet.{Packet}
+use Rattle.vrx_rtp.specs.Reading.{read}
 use Rattle.vrx_core.specs.Run.{text_of, ◌>>=◌}
 use Rattle.vrx_core.specs.Verdict.{verdict}
 use Rattle.vrx_core.specs.Machine.{what_of}

@@ -2,7 +2,7 @@
 use Rattle.std.specs.Prelude.{ℕ, ◌+◌, Bool, true, false, nat_le, List, Option, Some, None, Result, Ok, Err, ok_or}
 use Rattle.std.specs.Option.{option_and_then}
 use Rattle.vrx_num.specs.Extended.{extended}
-use Rattle.vrx_rtp.specs.Packet.{read}
+use Rattle.vrx_rtp.specs.Reading.{read}
 use Rattle.vrx_core.specs.Form.{is_form}
 use Rattle.vrx_core.specs.Window.{Content, Media, Packets, is_available}
 use Rattle.vrx_core.specs.declared.settings.Settings.{Settings}

@@ -150,7 +150,8 @@ impl Engine {
             OnOk result (StandsFor vp8 self.new (Event.Pull moment ∷ h)) }
         ensures reply { (h : List Event) → StandsFor vp8 self.old h →
             IfOk result (λ pulled. ToPull pulled ≡ reply self.old.settings vp8 h (Event.Pull moment)) }
-        ensures not_ready_exactly { IfOk result (λ pulled. (pulled ≡ Pulled.NotReady) ↔ NoneDeliverable vp8 self.old) }
+        ensures not_ready_exactly { IfOk result (λ pulled.
+            (pulled ≡ Pulled.NotReady) ↔ NoneDeliverable vp8 self.old) }
         ensures counts { OnOk result ((self.new.events ≡ self.old.events + 1) ×
             (self.new.clock ≡ max self.old.clock moment)) }
         ensures settings { self.new.settings ≡ self.old.settings }
@@ -190,7 +191,8 @@ impl Engine {
     /// Gives the next frame. Memory is taken first: an `Err` changes nothing, and where no frame is ready none is taken.
     fn hand_out(&mut self, moment: u64) -> Result<Option<Frame>, NoMemory>
         requires { self.old.events < 1048576 }
-        ensures frame { IfOk result (λ frame. frame ≡ next_joined self.old.last_pulled self.old.packets) }
+        ensures frame { IfOk result (λ frame.
+            frame ≡ next_joined self.old.last_pulled self.old.packets) }
         ensures after { IfOk result (λ frame. self.new ≡ with_pull self.old moment frame) }
         ensures err { OnErr result (self.new ≡ self.old) }
         ensures none { next_run self.old.last_pulled self.old.packets ≡ None → IsOk result }

@@ -2,7 +2,7 @@
 
 ghost use Rattle.std.specs.Prelude.{◌≡◌, ◌+◌, ◌*◌, ◌/◌, ◌%◌, ◌<◌, ◌≤◌, ◌↔◌, ◌==◌, true, false, not, length, Some, IfSome, IsNone, MatchOption};
 ghost use Rattle.std.specs.List.{list_any};
-ghost use Rattle.vrx_rtp.specs.Packet.{read as packet_read};
+ghost use Rattle.vrx_rtp.specs.Reading.{read as packet_read};
 ghost use Rattle.vrx_rtp.specs.View.{view};
 ghost use Rattle.vrx_core.specs.Descriptor.{bit as bit_of};
 ghost use Rattle.vrx_core.specs.Form.{packet_forms, is_form};
@@ -16,6 +16,9 @@ const MOST_OCTETS: usize = 9_216;
 /// A header, a payload descriptor of one octet, and one octet of the frame.
 const LEAST_OCTETS: usize = 14;
 
+/// The first octet of a packet of version 2 without padding, extension and contributing sources (RFC 3550 5.1).
+const PLAIN: u8 = 0x80;
+
 /// The bit of an octet that has this value.
 pub(crate) fn bit(octet: u8, value: u8) -> bool
     requires { 0 < value }
@@ -27,7 +30,8 @@ pub(crate) fn bit(octet: u8, value: u8) -> bool
 /// Whether a plain packet is of the stream, and has no extension octets (RFC 7741 4.2: X = 0).
 fn is_taken_packet(settings: &Settings, packet: &RtpView<'_>) -> bool
     requires { 2 ≤ length packet.now.payload.now }
-    ensures { result ≡ not (list_any (λ refused. refused) (packet_forms settings.now (view packet.now))) }
+    ensures { result ≡ not (list_any (λ refused. refused)
+        (packet_forms settings.now (view packet.now))) }
 {
     packet.pt == settings.media_type
         && packet.ssrc == settings.media_ssrc
@@ -42,6 +46,9 @@ pub(crate) fn taken_form<'a>(settings: &Settings, octets: &'a [u8]) -> Option<Rt
     ensures long { IfSome result (λ packet. 2 ≤ length packet.payload.now) }
 {
     if octets.len() > MOST_OCTETS || octets.len() < LEAST_OCTETS {
+        return None;
+    }
+    if octets[0] != PLAIN {
         return None;
     }
     let Ok(packet) = read(octets) else {

@@ -93,7 +93,8 @@ fn says_key(settings: &Settings, held: &Held) -> bool
 /// Whether a payload stands at this place of a run: the first begins a frame, and no other does.
 fn stands_at(place: u64, payload: &[u8]) -> bool
     requires { 0 < length payload.now }
-    ensures { result ≡ (if place == 0 then begins_frame_of payload.now else not (begins_frame_of payload.now)) }
+    ensures { result ≡ (if place == 0 then begins_frame_of payload.now
+        else not (begins_frame_of payload.now)) }
 {
     if place == 0 {
         begins_frame(payload)

@@ -90,21 +90,21 @@ settings = record { media_ssrc = 10; media_type = 96; from_ssrc = 11 }
 abbrev first_part : Carried
 first_part = record {
   text = first_text;
-  packet = record { marker = false; pt = 96; seq = 1; ts = 0; ssrc = 10; payload = 16 ∷ 0 ∷ 170 ∷ [] };
+  packet = record { marker = false; pt = 96; seq = 1; ts = 0; ssrc = 10; csrc = []; extension = None; payload = 16 ∷ 0 ∷ 170 ∷ []; padding = 0 };
   part = record { start = Yes; key = true; layers = None; body = 0 ∷ 170 ∷ [] };
 }
 
 abbrev second_part : Carried
 second_part = record {
   text = second_text;
-  packet = record { marker = false; pt = 96; seq = 2; ts = 0; ssrc = 10; payload = 0 ∷ 187 ∷ [] };
+  packet = record { marker = false; pt = 96; seq = 2; ts = 0; ssrc = 10; csrc = []; extension = None; payload = 0 ∷ 187 ∷ []; padding = 0 };
   part = record { start = No; key = false; layers = None; body = 187 ∷ [] };
 }
 
 abbrev third_part : Carried
 third_part = record {
   text = third_text;
-  packet = record { marker = true; pt = 96; seq = 3; ts = 0; ssrc = 10; payload = 0 ∷ 204 ∷ [] };
+  packet = record { marker = true; pt = 96; seq = 3; ts = 0; ssrc = 10; csrc = []; extension = None; payload = 0 ∷ 204 ∷ []; padding = 0 };
   part = record { start = No; key = false; layers = None; body = 204 ∷ [] };
 }
 
@@ -112,7 +112,7 @@ third_part = record {
 first_is : IsPart settings vp8 sender 0 keyframe 3 0 0 first_part
 first_is = record {
   sent = refl;
-  media = record { size = omega arith; reads = refl; number = refl; type = refl; source = refl; payload = λ e. cc; part_reads = refl; form = refl };
+  media = record { size = omega arith; reads = refl; no_padding = refl; number = refl; type = refl; source = refl; payload = λ e. cc; part_reads = refl; form = refl };
   timestamp = refl;
   marker = (λ e. cc, λ e. absurd (omega arith));
   start = refl;
@@ -122,7 +122,7 @@ first_is = record {
 second_is : IsPart settings vp8 sender 0 keyframe 3 1 1 second_part
 second_is = record {
   sent = refl;
-  media = record { size = omega arith; reads = refl; number = refl; type = refl; source = refl; payload = λ e. cc; part_reads = refl; form = refl };
+  media = record { size = omega arith; reads = refl; no_padding = refl; number = refl; type = refl; source = refl; payload = λ e. cc; part_reads = refl; form = refl };
   timestamp = refl;
   marker = (λ e. cc, λ e. absurd (omega arith));
   start = refl;
@@ -132,7 +132,7 @@ second_is = record {
 third_is : IsPart settings vp8 sender 0 keyframe 3 2 2 third_part
 third_is = record {
   sent = refl;
-  media = record { size = omega arith; reads = refl; number = refl; type = refl; source = refl; payload = λ e. cc; part_reads = refl; form = refl };
+  media = record { size = omega arith; reads = refl; no_padding = refl; number = refl; type = refl; source = refl; payload = λ e. cc; part_reads = refl; form = refl };
   timestamp = refl;
   marker = (λ e. refl, λ e. refl);
   start = refl;

@@ -1,2 +1,5 @@
+pub mod Faults
 pub mod Packet
+pub mod Reading
+pub mod Rtcp
 pub mod View

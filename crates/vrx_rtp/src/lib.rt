@@ -1,4 +1,4 @@
-//! Reads plain RTP packets (RFC 3550 5.1): no padding, no header extension and no contributing source.
+//! Reads and writes RTP packets (RFC 3550 5.1, 5.3.1), and tells RTCP from RTP (RFC 5761 4).
 //!
 //! ```text
 //!  0                   1                   2                   3
@@ -9,12 +9,21 @@
 //! |                           timestamp                           |
 //! +-+-+-+-+-+-+-+-+-+-+-+-+-+-+-+-+-+-+-+-+-+-+-+-+-+-+-+-+-+-+-+-+
 //! |           synchronization source (SSRC) identifier            |
+//! +=+=+=+=+=+=+=+=+=+=+=+=+=+=+=+=+=+=+=+=+=+=+=+=+=+=+=+=+=+=+=+=+
+//! |     contributing source (CSRC) identifiers: CC of them        |
+//! +-+-+-+-+-+-+-+-+-+-+-+-+-+-+-+-+-+-+-+-+-+-+-+-+-+-+-+-+-+-+-+-+
+//! |      defined by profile       |        count of words         |   X = 1
+//! +-+-+-+-+-+-+-+-+-+-+-+-+-+-+-+-+-+-+-+-+-+-+-+-+-+-+-+-+-+-+-+-+
+//! |                     words of the extension                    |
 //! +-+-+-+-+-+-+-+-+-+-+-+-+-+-+-+-+-+-+-+-+-+-+-+-+-+-+-+-+-+-+-+-+
 //! |                            payload                            |
+//! |                                               +-+-+-+-+-+-+-+-+
+//! |            padding            |               | padding count |   P = 1
+//! +-+-+-+-+-+-+-+-+-+-+-+-+-+-+-+-+-+-+-+-+-+-+-+-+-+-+-+-+-+-+-+-+
 //! ```
 //!
-//! A plain packet has `P`, `X` and `CC` 0, so its first octet is 0x80. [`read`] takes it apart, and
-//! refuses every other datagram. The payload may be empty.
+//! [`read`] takes a datagram apart and takes no memory; [`write`] undoes it. Both cite one grammar,
+//! `specs/Packet.antt IsPacket`. The padding octets other than the last are lost, and written as 0.
 //!
 //! `proofs/PacketLemmas.antt` has the laws of the grammar, for proofs of crates above.
 #![tactic(auto)]
@@ -22,12 +31,16 @@
 mod fault;
 mod laws;
 mod reading;
+mod rtcp;
 mod rtp_view;
+mod writing;
 
 pub use fault::{RtpFault, RtpFaultKind};
 pub use laws::one_reading;
 pub use reading::read;
-pub use rtp_view::RtpView;
+pub use rtcp::is_rtcp;
+pub use rtp_view::{Extension, RtpView};
+pub use writing::write;
 
 #[cfg(test)]
 mod tests;

@@ -1,65 +1,175 @@
 //! From a datagram to a packet.
 
-ghost use Rattle.std.specs.Prelude.{◌≡◌, ◌↔◌, Some, None, IsSome, IsNone, IsOk, IfOk, IfErr, OnErr, IsOkAnd, IsErrOf};
+ghost use Rattle.std.specs.Prelude.{◌≡◌, ◌↔◌, length, Some, None, Ok, Err, IsOk, IfOk, IsOkAnd, IsErrOf};
 ghost use Rattle.std.specs.Option.{option_map};
-ghost use Rattle.vrx_rtp.specs.Packet.{Packet, IsPacket, IsPlain, LacksPlainHeader, read as packet_read};
-ghost use Rattle.vrx_rtp.specs.View.{view, view_result, not_plain};
+ghost use Rattle.vrx_rtp.specs.declared.fault.RtpFault.{RtpFault};
+ghost use Rattle.vrx_rtp.specs.Faults.{first_fault};
+ghost use Rattle.vrx_rtp.specs.Packet.{Packet, IsPacket};
+ghost use Rattle.vrx_rtp.specs.Reading.{header_at, sources_at, words_at, extension_at, payload_at, reading};
+ghost use Rattle.vrx_rtp.specs.View.{view, view_extension, view_result, seen};
 
 use crate::fault::{RtpFault, RtpFaultKind};
-use crate::rtp_view::RtpView;
+use crate::rtp_view::{Extension, RtpView};
 
-/// How many octets a header has.
+/// How many octets each header has at least.
 const HEADER: usize = 12;
 
-/// The first octet of a plain packet: version 2, and no padding, extension or contributing source.
-const PLAIN: u8 = 0x80;
+/// The version of RTP.
+const VERSION: u8 = 2;
 
-/// The one fault.
-const NOT_PLAIN: RtpFault = RtpFault {
-    kind: RtpFaultKind::Plain,
-    at: 0,
-};
+/// What the twelve octets say that each header has.
+#[derive(Clone, Copy)]
+pub(crate) struct Header {
+    padded: bool,
+    extended: bool,
+    sources: u8,
+    marker: bool,
+    pt: u8,
+    seq: u16,
+    ts: u32,
+    ssrc: u32,
+}
 
-/// The packet that the datagram is, if it is a plain one.
-fn plain_packet(datagram: &[u8]) -> Option<RtpView<'_>>
-    ensures reads { option_map view result ≡ packet_read datagram.now }
-    ensures some { IsSome result ↔ IsPlain datagram.now }
-    ensures none { IsNone result ↔ LacksPlainHeader datagram.now }
+/// The twelve octets that each header has, and what is behind them.
+fn header_of(datagram: &[u8]) -> Result<(Header, &[u8]), RtpFault>
+    ensures { seen (λ x. (x.0, x.1.now)) result ≡ header_at datagram.now }
 {
-    if datagram.len() < HEADER || datagram[0] != PLAIN {
+    if datagram.len() < HEADER {
+        return Err(RtpFault {
+            kind: RtpFaultKind::Short,
+            at: datagram.len(),
+        });
+    }
+    let (front, rest) = datagram.split_at(HEADER);
+    let first = front[0];
+    let second = front[1];
+    if first / 64 != VERSION {
+        return Err(RtpFault {
+            kind: RtpFaultKind::Version,
+            at: 0,
+        });
+    }
+    let header = Header {
+        padded: first / 32 % 2 == 1,
+        extended: first / 16 % 2 == 1,
+        sources: first % 16,
+        marker: second >= 128,
+        pt: second % 128,
+        seq: u16::from_be_bytes([front[2], front[3]]),
+        ts: u32::from_be_bytes([front[4], front[5], front[6], front[7]]),
+        ssrc: u32::from_be_bytes([front[8], front[9], front[10], front[11]]),
+    };
+    Ok((header, rest))
+}
+
+/// So many contributing sources, and what is behind them.
+fn sources_of(count: u8, octets: &[u8]) -> Result<(&[u8], &[u8]), RtpFault>
+    ensures { seen (λ x. (x.0.now, x.1.now)) result ≡ sources_at count octets.now }
+{
+    let len = 4 * usize::from(count);
+    if octets.len() < len {
+        return Err(RtpFault {
+            kind: RtpFaultKind::CsrcPastEnd,
+            at: HEADER,
+        });
+    }
+    Ok(octets.split_at(len))
+}
+
+/// The header extension at the front, and what is behind it, where it doesn't run past the end.
+fn words_of(octets: &[u8]) -> Option<(Extension<'_>, &[u8])>
+    ensures { option_map (λ x. (view_extension x.0, x.1.now)) result ≡ words_at octets.now }
+{
+    let [profile1, profile0, count1, count0, rest @ ..] = octets else {
+        return None;
+    };
+    let len = 4 * usize::from(u16::from_be_bytes([*count1, *count0]));
+    if rest.len() < len {
         return None;
     }
-    let (header, payload) = datagram.split_at(HEADER);
-    Some(RtpView {
-        marker: header[1] >= 128,
-        pt: header[1] % 128,
-        seq: u16::from_be_bytes([header[2], header[3]]),
-        ts: u32::from_be_bytes([header[4], header[5], header[6], header[7]]),
-        ssrc: u32::from_be_bytes([header[8], header[9], header[10], header[11]]),
+    let profile = u16::from_be_bytes([*profile1, *profile0]);
+    let (words, rest) = rest.split_at(len);
+    Some((Extension { profile, words }, rest))
+}
+
+/// The header extension if there is one, and what is behind it. It stands at octet `at` of the datagram.
+fn extension_of(
+    extended: bool,
+    at: usize,
+    octets: &[u8],
+) -> Result<(Option<Extension<'_>>, &[u8]), RtpFault>
+    ensures { seen (λ x. (option_map view_extension x.0, x.1.now)) result ≡ extension_at extended at octets.now }
+{
+    if !extended {
+        return Ok((None, octets));
+    }
+    match words_of(octets) {
+        Some((extension, rest)) => Ok((Some(extension), rest)),
+        None => Err(RtpFault {
+            kind: RtpFaultKind::ExtensionPastEnd,
+            at,
+        }),
+    }
+}
+
+/// The payload, and how many padding octets follow it. The last octet is octet `at` of the datagram.
+fn payload_of(padded: bool, at: usize, octets: &[u8]) -> Result<(&[u8], u8), RtpFault>
+    ensures { seen (λ x. (x.0.now, x.1)) result ≡ payload_at padded at octets.now }
+{
+    if !padded {
+        return Ok((octets, 0));
+    }
+    let count = match octets {
+        [.., last] => *last,
+        [] => 0,
+    };
+    let len = usize::from(count);
+    if len == 0 || octets.len() < len {
+        return Err(RtpFault {
+            kind: RtpFaultKind::PaddingPastEnd,
+            at,
+        });
+    }
+    let (payload, _padding) = octets.split_at(octets.len() - len);
+    Ok((payload, count))
+}
+
+/// The packet that the datagram is, taken from the front.
+fn packet_of(datagram: &[u8]) -> Result<RtpView<'_>, RtpFault>
+    ensures { view_result result ≡ reading datagram.now }
+{
+    let (header, rest) = header_of(datagram)?;
+    let (csrc, rest) = sources_of(header.sources, rest)?;
+    let (extension, rest) = extension_of(header.extended, HEADER + csrc.len(), rest)?;
+    let (payload, padding) = payload_of(header.padded, datagram.len() - 1, rest)?;
+    Ok(RtpView {
+        marker: header.marker,
+        pt: header.pt,
+        seq: header.seq,
+        ts: header.ts,
+        ssrc: header.ssrc,
+        csrc,
+        extension,
         payload,
+        padding,
     })
 }
 
-/// The plain RTP packet that the datagram is (RFC 3550 5.1). It takes no memory.
+/// The RTP packet that the datagram is (RFC 3550 5.1). It takes no memory.
 ///
-/// The one fault is [`RtpFaultKind::Plain`] at 0.
+/// A datagram that is none has the first fault that applies, in the order of [`RtpFaultKind`]. The values of the padding
+/// octets other than the last aren't kept.
 pub fn read(datagram: &[u8]) -> Result<RtpView<'_>, RtpFault>
     // What is read, seen as a packet, wherever it lies in memory.
-    ensures reads { view_result result ≡ packet_read datagram.now }
-    ensures packet { IfOk result (λ v. packet_read datagram.now ≡ Some (view v)) }
-    ensures none { OnErr result (packet_read datagram.now ≡ None) }
+    ensures reads { view_result result ≡ reading datagram.now }
 
-    // What is read is spelled so, and what is spelled so is read.
-    ensures grammar { IfOk result (λ v. IsPacket datagram.now (view v)) }
+    // What is read is in the grammar, and what is in the grammar is read.
+    ensures packet { IfOk result (λ v. IsPacket datagram.now (view v)) }
     ensures only { (p : Packet) → IsPacket datagram.now p → IsOkAnd result (λ v. view v ≡ p) }
 
-    // When it is refused, and with which fault.
-    ensures ok { IsOk result ↔ IsPlain datagram.now }
-    ensures plain { IsErrOf result not_plain ↔ LacksPlainHeader datagram.now }
-    ensures one_fault { IfErr result (λ e. e ≡ not_plain) }
+    // It is read exactly where no fault applies, and else the first that applies is told.
+    ensures ok { IsOk result ↔ (first_fault datagram.now ≡ None) }
+    ensures fault { (f : RtpFault) → (IsErrOf result f ↔ (first_fault datagram.now ≡ Some f)) }
 {
-    match plain_packet(datagram) {
-        Some(packet) => Ok(packet),
-        None => Err(NOT_PLAIN),
-    }
+    packet_of(datagram)
 }
