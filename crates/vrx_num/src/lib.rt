@@ -4,16 +4,20 @@
 //! far, and `extend` finds the one number that a wire number means beside it: equal modulo 65,536, and
 //! nearer than 32,768. Just half of the space away no number is nearer, and `extend` gives none.
 //!
+//! [`Numbers`] is a list of such numbers, and [`NoMemory`] the error of what fails only for want of memory.
+//!
 //! `proofs/ExtendedLemmas.antt` has the laws of the definitions, for proofs of crates above.
 #![tactic(auto)]
 
 mod extender;
 mod laws;
 mod no_memory;
+mod numbers;
 
 pub use extender::Extender;
 pub use laws::extended_is_near;
 pub use no_memory::NoMemory;
+pub use numbers::Numbers;
 
 #[cfg(test)]
 mod tests;

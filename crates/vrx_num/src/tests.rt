@@ -35,3 +35,16 @@ fn converts_what_an_allocation_answers(rt: HostRuntime) -> Result<(), NoMemory> 
     assert_eq!(rt; copy.as_slice(), &[1][..]);
     Ok(())
 }
+
+#[test]
+fn keeps_numbers_in_order(rt: HostRuntime) -> Result<(), NoMemory> {
+    let mut numbers = Numbers::new(rt.alloc());
+    assert_eq!(rt; numbers.as_slice(), &[][..]);
+    // the greatest number there is, then smaller ones, one of them twice
+    for number in [18_446_744_073_709_551_615, 65_537, 65_537, 0] {
+        numbers.push(number)?;
+    }
+    let want = [18_446_744_073_709_551_615, 65_537, 65_537, 0];
+    assert_eq!(rt; numbers.as_slice(), &want[..]);
+    Ok(())
+}

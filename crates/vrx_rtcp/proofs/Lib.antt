@@ -1,0 +1,5 @@
+mod BodyLemmas
+pub mod CompoundLemmas
+mod HeaderLemmas
+mod NumberLemmas
+pub mod PacketLemmas

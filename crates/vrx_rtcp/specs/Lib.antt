@@ -1,0 +1,5 @@
+pub mod Compound
+pub mod Fault
+pub mod Field
+pub mod Packet
+pub mod View

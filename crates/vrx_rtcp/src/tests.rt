@@ -1,0 +1,341 @@
+ghost use Rattle.std.specs.Prelude.{◌≡◌, ◌+◌, IfOk, length, vec_len};
+
+use super::*;
+use std::alloc::AllocError;
+
+/// The two report blocks of the sender report below (RFC 3550 6.4.1).
+const BLOCKS: [u8; 48] = [
+    // SSRC 0x0b, fraction lost 1/4, 3 packets lost, highest number 0x0001_0005, jitter 7, LSR, DLSR
+    0, 0, 0, 0x0b, 0x40, 0, 0, 3, 0, 1, 0, 5, 0, 0, 0, 7, 0x45, 0x67, 0x80, 0, 0, 0, 0x80, 0,
+    // SSRC 0x0c, nothing lost, highest number 0x0000_ffff, jitter 0, no sender report seen
+    0, 0, 0, 0x0c, 0, 0, 0, 0, 0, 0, 0xff, 0xff, 0, 0, 0, 0, 0, 0, 0, 0, 0, 0, 0, 0,
+];
+
+/// A sender report with two blocks: 7 words and 2 times 6, so 18 stands in the length.
+const SENDER: [u8; 76] = [
+    0x82, 0xc8, 0, 18, // version 2, two blocks, type 200
+    0, 0, 0, 0x0a, // SSRC
+    0xe1, 0x23, 0x45, 0x67, 0x80, 0, 0, 0, // NTP seconds, and half of one
+    0, 0, 0x03, 0xe8, // RTP time 1,000
+    0, 0, 0, 5, // 5 packets
+    0, 0, 0x13, 0x88, // 5,000 octets
+    0, 0, 0, 0x0b, 0x40, 0, 0, 3, 0, 1, 0, 5, 0, 0, 0, 7, 0x45, 0x67, 0x80, 0, 0, 0, 0x80, 0, 0, 0,
+    0, 0x0c, 0, 0, 0, 0, 0, 0, 0xff, 0xff, 0, 0, 0, 0, 0, 0, 0, 0, 0, 0, 0, 0,
+];
+
+/// An empty receiver report (RFC 3550 6.4.2).
+const REPORT: [u8; 8] = [0x80, 0xc9, 0, 1, 0, 0, 0, 0x0b];
+
+/// A source description with the one item CNAME, `a@b` (RFC 3550 6.5).
+const DESCRIPTION: [u8; 16] = [
+    0x81, 0xca, 0, 3, 0, 0, 0, 0x0a, 1, 3, b'a', b'@', b'b', 0, 0, 0,
+];
+
+/// A picture loss indication (RFC 4585 6.3.1).
+const LOSS: [u8; 12] = [0x81, 0xce, 0, 2, 0, 0, 0, 0x0b, 0, 0, 0, 0x0a];
+
+/// What the sender report says.
+const SENDER_SAYS: Body<'_> = Body::Sender(SenderReport {
+    ssrc: 10,
+    ntp: 0xe123_4567_8000_0000,
+    rtp_time: 1_000,
+    packets: 5,
+    octets: 5_000,
+    blocks: &BLOCKS,
+});
+
+/// The octets behind an empty receiver report, which is a packet of 8 octets.
+fn behind_a_report(rt: &HostRuntime, octets: &[u8]) -> Result<Vec<u8>, AllocError>
+    ensures { IfOk result (λ v. vec_len v ≡ 8 + length octets.now) }
+{
+    let mut joined = Vec::from_slice(rt.alloc(), &REPORT)?;
+    joined.extend_from_slice(octets)?;
+    Ok(joined)
+}
+
+#[test]
+fn reads_packets(rt: HostRuntime) -> Result<(), AllocError> {
+    let cases: [(&[u8], Body<'_>); 16] = [
+        (&SENDER, SENDER_SAYS),
+        (
+            &REPORT,
+            Body::Report(ReceiverReport {
+                ssrc: 11,
+                blocks: &[],
+            }),
+        ),
+        // a goodbye of one source, with the reason "gone" of four octets, filled up to a word
+        (
+            &[
+                0x81, 0xcb, 0, 3, 0, 0, 0, 0x0a, 4, b'g', b'o', b'n', b'e', 0, 0, 0,
+            ],
+            Body::Bye(Bye {
+                sources: &[0, 0, 0, 0x0a],
+            }),
+        ),
+        // a goodbye of nobody
+        (&[0x80, 0xcb, 0, 0], Body::Bye(Bye { sources: &[] })),
+        // missing: 5 with 6 and 7 behind it, and 256 with 272
+        (
+            &[
+                0x81, 0xcd, 0, 4, 0, 0, 0, 0x0b, 0, 0, 0, 0x0a, 0, 5, 0, 3, 1, 0, 0x80, 0,
+            ],
+            Body::Nack(Nack {
+                sender: 11,
+                media: 10,
+                items: &[0, 5, 0, 3, 1, 0, 0x80, 0],
+            }),
+        ),
+        (
+            &LOSS,
+            Body::Pli(Pli {
+                sender: 11,
+                media: 10,
+            }),
+        ),
+        (&DESCRIPTION, Body::Other { kind: 202 }),
+        // an application's packet of the name "name" (RFC 3550 6.7)
+        (
+            &[0x80, 0xcc, 0, 2, 0, 0, 0, 0x0a, b'n', b'a', b'm', b'e'],
+            Body::Other { kind: 204 },
+        ),
+        // feedback of the format 15, on the transport and on the payload
+        (
+            &[0x8f, 0xcd, 0, 2, 0, 0, 0, 0x0b, 0, 0, 0, 0x0a],
+            Body::Other { kind: 205 },
+        ),
+        (
+            &[0x8f, 0xce, 0, 2, 0, 0, 0, 0x0b, 0, 0, 0, 0x0a],
+            Body::Other { kind: 206 },
+        ),
+        // a type that no standard names, with a header alone
+        (&[0x80, 0xd2, 0, 0], Body::Other { kind: 210 }),
+        // an extension of a receiver report isn't a block
+        (
+            &[0x80, 0xc9, 0, 2, 0, 0, 0, 0x0b, 9, 9, 9, 9],
+            Body::Report(ReceiverReport {
+                ssrc: 11,
+                blocks: &[],
+            }),
+        ),
+        // padding of 4 and of 8 octets, the last of which tells their number
+        (
+            &[0xa0, 0xc9, 0, 2, 0, 0, 0, 0x0b, 0, 0, 0, 4],
+            Body::Report(ReceiverReport {
+                ssrc: 11,
+                blocks: &[],
+            }),
+        ),
+        (
+            &[0xa0, 0xd2, 0, 2, 0, 0, 0, 0, 0, 0, 0, 8],
+            Body::Other { kind: 210 },
+        ),
+        (
+            &[
+                0xa1, 0xcd, 0, 4, 0, 0, 0, 0x0b, 0, 0, 0, 0x0a, 0, 5, 0, 3, 0, 0, 0, 4,
+            ],
+            Body::Nack(Nack {
+                sender: 11,
+                media: 10,
+                items: &[0, 5, 0, 3],
+            }),
+        ),
+        // an SSRC of all ones
+        (
+            &[0x80, 0xc9, 0, 1, 255, 255, 255, 255],
+            Body::Report(ReceiverReport {
+                ssrc: 4_294_967_295,
+                blocks: &[],
+            }),
+        ),
+    ];
+    for (octets, body) in cases {
+        let next = octets.len();
+        assert_eq!(rt;
+            read_packet(octets, 0),
+            Ok(Packet { body, next }),
+            "{octets:?}"
+        );
+        let later = behind_a_report(&rt, octets)?;
+        let next = later.len();
+        assert_eq!(rt;
+            read_packet(&later, 8),
+            Ok(Packet { body, next }),
+            "{octets:?} later"
+        );
+        assert_eq!(rt; read_compound(&later), Ok(2), "{octets:?} later");
+    }
+    Ok(())
+}
+
+#[test]
+fn refuses_with_the_first_fault(rt: HostRuntime) -> Result<(), AllocError> {
+    let cases: [(&[u8], RtcpFaultKind); 24] = [
+        // one octet, and one fewer than a header
+        (&[0x80], RtcpFaultKind::Short),
+        (&[0x40, 0xc9, 0], RtcpFaultKind::Short),
+        // the versions 1 and 3, also where the length runs past the end
+        (&[0x40, 0xc9, 0, 1, 0, 0, 0, 0x0b], RtcpFaultKind::Version),
+        (&[0xc0, 0xc9, 0, 1, 0, 0, 0, 0x0b], RtcpFaultKind::Version),
+        (&[0x60, 0xc9, 0, 9], RtcpFaultKind::Version),
+        // one octet fewer than the length says, and the greatest length
+        (&[0x80, 0xc9, 0, 1, 0, 0, 0], RtcpFaultKind::PastEnd),
+        (
+            &[0x80, 0xc9, 0xff, 0xff, 0, 0, 0, 0x0b],
+            RtcpFaultKind::PastEnd,
+        ),
+        // where the last octet that is there would be no padding, and the body too short
+        (&[0xa0, 0xc9, 0, 2, 0, 0, 0, 3], RtcpFaultKind::PastEnd),
+        (&[0x81, 0xc9, 0, 2, 0, 0, 0, 0x0b], RtcpFaultKind::PastEnd),
+        // padding of 0, of 3, of 5, and of more than lies behind the header; a header alone
+        (
+            &[0xa0, 0xc9, 0, 2, 0, 0, 0, 0x0b, 0, 0, 0, 0],
+            RtcpFaultKind::Padding,
+        ),
+        (
+            &[0xa0, 0xc9, 0, 2, 0, 0, 0, 0x0b, 0, 0, 0, 3],
+            RtcpFaultKind::Padding,
+        ),
+        (
+            &[0xa0, 0xc9, 0, 2, 0, 0, 0, 0x0b, 0, 0, 0, 5],
+            RtcpFaultKind::Padding,
+        ),
+        (
+            &[0xa0, 0xd2, 0, 2, 0, 0, 0, 0, 0, 0, 0, 12],
+            RtcpFaultKind::Padding,
+        ),
+        (&[0xa0, 0xc9, 0, 0], RtcpFaultKind::Padding),
+        // a sender report of 24 octets, and of one block without its last word
+        (
+            &[
+                0x80, 0xc8, 0, 5, 0, 0, 0, 0, 0, 0, 0, 0, 0, 0, 0, 0, 0, 0, 0, 0, 0, 0, 0, 0,
+            ],
+            RtcpFaultKind::Body,
+        ),
+        (
+            &[
+                0x81, 0xc8, 0, 11, 0, 0, 0, 0, 0, 0, 0, 0, 0, 0, 0, 0, 0, 0, 0, 0, 0, 0, 0, 0, 0,
+                0, 0, 0, 0, 0, 0, 0, 0, 0, 0, 0, 0, 0, 0, 0, 0, 0, 0, 0, 0, 0, 0, 0,
+            ],
+            RtcpFaultKind::Body,
+        ),
+        // a receiver report of a header alone, and one whose padding leaves a header
+        (&[0x80, 0xc9, 0, 0], RtcpFaultKind::Body),
+        (&[0xa0, 0xc9, 0, 1, 0, 0, 0, 4], RtcpFaultKind::Body),
+        // a receiver report of one block without it
+        (&[0x81, 0xc9, 0, 1, 0, 0, 0, 0x0b], RtcpFaultKind::Body),
+        // a goodbye of two sources with one
+        (&[0x82, 0xcb, 0, 1, 0, 0, 0, 0x0a], RtcpFaultKind::Body),
+        // feedback of one SSRC, also of another format
+        (&[0x81, 0xcd, 0, 1, 0, 0, 0, 0x0b], RtcpFaultKind::Body),
+        (&[0x8f, 0xcd, 0, 1, 0, 0, 0, 0x0b], RtcpFaultKind::Body),
+        (&[0x81, 0xce, 0, 1, 0, 0, 0, 0x0b], RtcpFaultKind::Body),
+        (
+            &[0xa1, 0xce, 0, 2, 0, 0, 0, 0x0b, 0, 0, 0, 4],
+            RtcpFaultKind::Body,
+        ),
+    ];
+    for (octets, kind) in cases {
+        assert_eq!(rt;
+            read_packet(octets, 0),
+            Err(RtcpFault { kind, at: 0 }),
+            "{octets:?}"
+        );
+        let later = behind_a_report(&rt, octets)?;
+        assert_eq!(rt;
+            read_packet(&later, 8),
+            Err(RtcpFault { kind, at: 8 }),
+            "{octets:?} later"
+        );
+        assert_eq!(rt;
+            read_compound(&later),
+            Err(RtcpFault { kind, at: 8 }),
+            "{octets:?} later"
+        );
+    }
+    Ok(())
+}
+
+#[test]
+fn reads_compounds(rt: HostRuntime) -> Result<(), AllocError> {
+    let mut datagram = Vec::from_slice(rt.alloc(), &SENDER)?;
+    datagram.extend_from_slice(&DESCRIPTION)?;
+    datagram.extend_from_slice(&LOSS)?;
+    assert_eq!(rt; read_compound(&datagram), Ok(3));
+    // each of them at its place: 76 octets, and 16 behind them
+    assert_eq!(rt;
+        read_packet(&datagram, 0),
+        Ok(Packet {
+            body: SENDER_SAYS,
+            next: 76
+        })
+    );
+    assert_eq!(rt;
+        read_packet(&datagram, 76),
+        Ok(Packet {
+            body: Body::Other { kind: 202 },
+            next: 92
+        })
+    );
+    let pli = Body::Pli(Pli {
+        sender: 11,
+        media: 10,
+    });
+    assert_eq!(rt;
+        read_packet(&datagram, 92),
+        Ok(Packet {
+            body: pli,
+            next: 104
+        })
+    );
+    // at the end nothing is left
+    let short = RtcpFault {
+        kind: RtcpFaultKind::Short,
+        at: 104,
+    };
+    assert_eq!(rt; read_packet(&datagram, 104), Err(short));
+    // without its last octet
+    datagram.truncate(103);
+    let past_end = RtcpFault {
+        kind: RtcpFaultKind::PastEnd,
+        at: 92,
+    };
+    assert_eq!(rt; read_compound(&datagram), Err(past_end));
+    // alone, and with a fault in the first packet
+    assert_eq!(rt; read_compound(&LOSS), Ok(1));
+    let version = RtcpFault {
+        kind: RtcpFaultKind::Version,
+        at: 0,
+    };
+    assert_eq!(rt; read_compound(&[0x41, 0xce, 0, 2]), Err(version));
+    Ok(())
+}
+
+#[test]
+fn holds_feedback(rt: HostRuntime) {
+    let feedback = Feedback {
+        nack: None,
+        pli: Some(LOSS),
+    };
+    assert_eq!(rt; feedback.nack.is_none(), true);
+    assert_eq!(rt; feedback.pli, Some(LOSS));
+}
+
+#[test]
+fn prints_faults(rt: HostRuntime) -> Result<(), AllocError> {
+    for (kind, want) in [
+        (
+            RtcpFaultKind::Short,
+            "fewer than four octets remain, in the packet at octet 8",
+        ),
+        (
+            RtcpFaultKind::Padding,
+            "the padding is wrong, in the packet at octet 8",
+        ),
+    ] {
+        let fault = RtcpFault { kind, at: 8 };
+        let text = format!(in rt.alloc(); "{fault}")?;
+        assert_eq!(rt; text.as_str(), want);
+    }
+    Ok(())
+}
