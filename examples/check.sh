@@ -59,6 +59,19 @@ again $call/capture /dev/null python3 tools/make_call.py 1 300
 again $call/sent /dev/null python3 tools/make_call.py 1 300 sent
 again $call/transcript $call/sent python3 tools/expected_frames.py
 
+# A decoder that pulls once: of twenty thousand packets of 1,000 octets only the 2,048 of the window are kept, so that 16 MiB of
+# address space are enough. The pull gives the least keyframe that the window holds whole.
+long=$(mktemp) || exit 1
+trap 'rm -f "$text" "$long"' EXIT
+tools/long_capture.py 20000 once > "$long"
+(ulimit -v 16384 && crates/vrx_program/out/vrx_program replay < "$long" > "$text")
+if [ "$?" = 0 ] && tail -n 1 "$text" | grep -q '^20002 frame 83536 83545 key '; then
+  passed=$((passed + 1))
+else
+  echo "twenty thousand packets and one pull: $(tail -n 1 "$text" | cut -c1-60)"
+  failed=$((failed + 1))
+fi
+
 # told STATUS LINE INPUT OUTPUT WORD..: with these words the program ends so, and standard error has this line
 told() {
   local wanted=$1 line=$2 input=$3 output=$4 status
