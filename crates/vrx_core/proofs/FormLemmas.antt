@@ -8,8 +8,9 @@ use Rattle.std.proofs.lemmas.Bool.{ltb-false, le-ltb, eqb-true, or_parts, true�
 use Rattle.std.proofs.lemmas.Option.{none-some, same_Some}
 use Rattle.vrx_rtp.specs.Packet.{Packet}
 use Rattle.vrx_rtp.specs.Reading.{read}
-use Rattle.vrx_core.specs.Part.{Yes, No, Part}
-use Rattle.vrx_core.specs.Descriptor.{bit, octet_if, ◌>>=◌, fields_behind, part_of, read_part}
+use Rattle.vrx_codec.specs.Part.{Part}
+use Rattle.vrx_codec.specs.declared.part.Start.TheVariants.{Yes, No}
+use Rattle.vrx_vp8.specs.Descriptor.{bit, octet_if, ◌>>=◌, fields_behind, part_of, read_part}
 use Rattle.vrx_core.specs.Form.{reading_forms, is_form}
 use Rattle.vrx_core.specs.Step.{begins_frame, is_key}
 use Rattle.vrx_core.specs.declared.settings.Settings.{Settings}

@@ -8,8 +8,10 @@ use Rattle.std.proofs.lemmas.List.{length-map}
 use Rattle.std.proofs.lemmas.List.Elements.{All-from_recursion, recursion_from_All}
 use Rattle.vrx_rtp.specs.Packet.{Packet}
 use Rattle.vrx_rtp.specs.Reading.{read}
-use Rattle.vrx_core.specs.Part.{Yes, No, Part, JoinFault}
-use Rattle.vrx_core.specs.Meaning.{Meaning}
+use Rattle.vrx_codec.specs.Part.{Part}
+use Rattle.vrx_codec.specs.declared.part.Start.TheVariants.{Yes, No}
+use Rattle.vrx_codec.specs.declared.fault.JoinFault.{JoinFault}
+use Rattle.vrx_codec.specs.Meaning.{Meaning}
 use Rattle.vrx_core.specs.Window.{Content, Packets, at, is_available}
 use Rattle.vrx_core.specs.Window as window
 use Rattle.vrx_core.specs.Run.{Run, Piece, begins, is_passed, began_behind, is_start}

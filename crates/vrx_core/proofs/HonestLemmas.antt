@@ -1,7 +1,7 @@
 -- Every honest call is answered rightly.
 use Rattle.std.proofs.Common.{◌≡◌, ℕ, zero, suc, ◌+◌, ◌<◌, ◌≤◌, true, List, [], ◌∷◌, length, slice_get, slice_index, Contains, All, Option, Some, None, IfSome, IsSomeAnd, option_map, refl, sym, ap, subst, arith, suc-add}
 use Rattle.std.specs.List.Sorted.{IsStrictlyIncreasing}
-use Rattle.vrx_core.specs.Meaning.{Meaning}
+use Rattle.vrx_codec.specs.Meaning.{Meaning}
 use Rattle.vrx_core.specs.Run.{Run}
 use Rattle.vrx_core.specs.Deliverable.{answer}
 use Rattle.vrx_core.specs.Machine.{Reply, ToDatagram, ToPull, Snapshot, latest, frame_of, next_frame, pulled_of, after_pull, snapshots, reply, replies}

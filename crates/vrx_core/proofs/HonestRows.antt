@@ -1,10 +1,10 @@
 -- An honest sender and an honest network, worked by hand: the premises of the law can be met.
 use Rattle.std.proofs.Common.{◌≢◌, ◌≤◌, ◌<◌, ◌≡◌, ◌∙◌, ap, inl, inr, Contains, All, ℕ, zero, suc, ◌+◌, true, false, List, [], ◌∷◌, length, None, IfSome, slice_get, refl, arith}
 use Rattle.std.proofs.lemmas.List.Elements.{All-nil, All-from_recursion}
-use Rattle.vrx_core.specs.Descriptor.{vp8}
+use Rattle.vrx_vp8.specs.Descriptor.{vp8}
 use Rattle.vrx_core.specs.Machine.{snapshots}
 use Rattle.vrx_core.specs.Sender.{SentFrame, Media, Sender}
-use Rattle.vrx_core.specs.Part.{Yes, No}
+use Rattle.vrx_codec.specs.declared.part.Start.TheVariants.{Yes, No}
 use Rattle.vrx_core.specs.Chain.{InChain}
 use Rattle.vrx_core.specs.HonestSender.{Carried, IsPart, Travels, HonestSender}
 use Rattle.vrx_core.specs.HonestNetwork.{Origin, FromSender, Elsewhere, HonestNetwork, taken}

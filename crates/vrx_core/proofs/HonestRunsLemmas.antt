@@ -1,6 +1,6 @@
 -- The runs of an honest call are the sender's frames.
 use Rattle.std.proofs.Common.{ℕ, List, [], ◌∷◌}
-use Rattle.vrx_core.specs.Meaning.{Meaning}
+use Rattle.vrx_codec.specs.Meaning.{Meaning}
 use Rattle.vrx_core.specs.Machine.{latest, snapshots}
 use Rattle.vrx_core.specs.Sender.{Sender}
 use Rattle.vrx_core.specs.HonestSender.{HonestSender}

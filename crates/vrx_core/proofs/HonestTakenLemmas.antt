@@ -4,7 +4,7 @@ use Rattle.std.proofs.lemmas.Bool.{both_ways, false_from_ne_true, lt-leb}
 use Rattle.std.proofs.lemmas.Option.{same_Some}
 use Rattle.vrx_num.specs.Extended.{Extends, extended}
 use Rattle.vrx_num.proofs.ExtendedLemmas.{extended-extends, extended-some}
-use Rattle.vrx_core.specs.Meaning.{Meaning}
+use Rattle.vrx_codec.specs.Meaning.{Meaning}
 use Rattle.vrx_core.specs.Window.{Content, Packets, at, is_available, newest_with}
 use Rattle.vrx_core.specs.Verdict.{is_too_old, number_of, verdict}
 use Rattle.vrx_core.specs.Machine.{Reply, ToDatagram, Snapshot, latest, after_datagram, after_pull, next_frame, what_of, snapshots, reply}

@@ -1,7 +1,7 @@
 -- The packets of an honest sender are the parts of its frames.
 use Rattle.std.proofs.Common.{◌≡◌, ℕ, zero, suc, ◌+◌, ◌-◌, ◌<◌, ◌≤◌, ◌⊎◌, false, List, [], ◌∷◌, length, slice_get, Option, Some, None, IfSome, IsSomeAnd, refl, sym, ◌∙◌, ap, subst, arith, inl, inr}
 use Rattle.std.proofs.lemmas.Option.{none-some, same_Some, slice_get_within, slice_get-get_or}
-use Rattle.vrx_core.specs.Meaning.{Meaning}
+use Rattle.vrx_codec.specs.Meaning.{Meaning}
 use Rattle.vrx_core.specs.Sender.{SentFrame, SentPacket, Media, Sender, IsOf, Spans}
 use Rattle.vrx_core.specs.HonestSender.{Carried, IsPart, AreParts, Travels, HonestSender}
 use Rattle.vrx_core.specs.declared.settings.Settings.{Settings}

@@ -1,8 +1,8 @@
 -- The machine and the payload descriptor on rows worked by hand.
 use Rattle.std.specs.Prelude.{◌≡◌, ℕ, true, false, List, [], ◌∷◌, refl, Some, None, Ok, Err}
 use Rattle.vrx_core.specs.Machine.{ToDatagram, ToPull, replies, reply, snapshots}
-use Rattle.vrx_core.specs.Part.{Yes}
-use Rattle.vrx_core.specs.Descriptor.{read_part, vp8}
+use Rattle.vrx_codec.specs.declared.part.Start.TheVariants.{Yes}
+use Rattle.vrx_vp8.specs.Descriptor.{read_part, vp8}
 use Rattle.vrx_core.specs.declared.settings.Settings.{Settings}
 use Rattle.vrx_core.specs.declared.event.Event.TheVariants.{Datagram, Pull}
 use Rattle.vrx_core.specs.declared.reply.What.TheVariants.{Media, Dropped}

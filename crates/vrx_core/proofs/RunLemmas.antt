@@ -8,8 +8,9 @@ use Rattle.std.proofs.lemmas.Option.{none-some, same_Some}
 use Rattle.std.proofs.lemmas.List.Elements.{All-from_recursion, recursion_from_All}
 use Rattle.vrx_rtp.specs.Packet.{Packet}
 use Rattle.vrx_rtp.specs.Reading.{read}
-use Rattle.vrx_core.specs.Part.{Layers, Part}
-use Rattle.vrx_core.specs.Meaning.{Meaning}
+use Rattle.vrx_codec.specs.Part.{Part}
+use Rattle.vrx_codec.specs.declared.part.Layers.{Layers}
+use Rattle.vrx_codec.specs.Meaning.{Meaning}
 use Rattle.vrx_core.specs.Window.{Content, Media, Fec, Empty, Packets, at, is_available}
 use Rattle.vrx_core.specs.Run.{Run, Piece, text_of, piece_at, numbers_from, all_some, stretch, is_start, first_alone, last_alone, run_of, runs, ◌>>=◌}
 use Rattle.vrx_core.specs.IsRun.{IsPiece, ArePieces, IsRun, RunsHolds}

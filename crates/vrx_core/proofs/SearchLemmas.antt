@@ -11,8 +11,9 @@ use Rattle.std.proofs.lemmas.Option.{none-some, same_Some}
 use Rattle.std.proofs.lemmas.List.Elements.{All-from_recursion, recursion_from_All}
 use Rattle.vrx_rtp.specs.Packet.{Packet}
 use Rattle.vrx_rtp.specs.Reading.{read}
-use Rattle.vrx_core.specs.Part.{Yes, No, Part}
-use Rattle.vrx_core.specs.Descriptor.{read_part, vp8}
+use Rattle.vrx_codec.specs.Part.{Part}
+use Rattle.vrx_codec.specs.declared.part.Start.TheVariants.{Yes, No}
+use Rattle.vrx_vp8.specs.Descriptor.{read_part, vp8}
 use Rattle.vrx_core.specs.Form.{is_form}
 use Rattle.vrx_core.specs.Window.{Content, Media, Packets, at}
 use Rattle.vrx_core.specs.Run.{Run, Piece, text_of, begins, is_passed, began_behind, is_start, runs, ◌>>=◌}

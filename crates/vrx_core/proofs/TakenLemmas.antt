@@ -4,7 +4,7 @@ use Rattle.vrx_num.specs.Extended.{extended}
 use Rattle.std.proofs.lemmas.Option.{same_Some}
 use Rattle.vrx_rtp.specs.Packet.{Packet}
 use Rattle.vrx_rtp.specs.Reading.{read}
-use Rattle.vrx_core.specs.Meaning.{Meaning}
+use Rattle.vrx_codec.specs.Meaning.{Meaning}
 use Rattle.vrx_core.specs.Window.{Content, Packets, is_available}
 use Rattle.vrx_core.specs.Window as window
 use Rattle.vrx_core.specs.Form.{is_form}

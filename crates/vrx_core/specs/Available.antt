@@ -1,6 +1,6 @@
 -- Where the available packets come from.
 use Rattle.std.specs.Prelude.{◌≡◌, ℕ, ◌+◌, ◌<◌, ◌≤◌, List, ◌∷◌, ◌++◌, Option, Some, IsSomeAnd}
-use Rattle.vrx_core.specs.Meaning.{Meaning}
+use Rattle.vrx_codec.specs.Meaning.{Meaning}
 use Rattle.vrx_core.specs.Window.{Content, Media, at}
 use Rattle.vrx_core.specs.Machine.{ToDatagram, latest, reply, snapshots}
 use Rattle.vrx_core.specs.declared.settings.Settings.{Settings}

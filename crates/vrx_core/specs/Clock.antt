@@ -1,6 +1,6 @@
 -- The machine's clock is the history's.
 use Rattle.std.specs.Prelude.{◌≡◌, List}
-use Rattle.vrx_core.specs.Meaning.{Meaning}
+use Rattle.vrx_codec.specs.Meaning.{Meaning}
 use Rattle.vrx_core.specs.History.{now}
 use Rattle.vrx_core.specs.Machine.{latest, snapshots}
 use Rattle.vrx_core.specs.declared.settings.Settings.{Settings}

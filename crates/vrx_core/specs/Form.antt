@@ -3,7 +3,7 @@ use Rattle.std.specs.Prelude.{ℕ, Bool, true, not, ◌==◌, nat_lt, List, [], 
 use Rattle.std.specs.List.{list_any}
 use Rattle.vrx_rtp.specs.Packet.{Packet}
 use Rattle.vrx_rtp.specs.Reading.{read}
-use Rattle.vrx_core.specs.Descriptor.{bit}
+use Rattle.vrx_vp8.specs.Descriptor.{bit}
 use Rattle.vrx_core.specs.declared.settings.Settings.{Settings}
 
 -- what is refused of a packet (RFC 3550 5.1, RFC 7741 4.2)

@@ -2,7 +2,7 @@
 use Rattle.std.specs.Prelude.{◌≡◌, ℕ, ◌≤◌, true, List, [], ◌∷◌, slice_get, All, Contains, IfSome, IsSomeAnd, Option, Some, None}
 use Rattle.std.specs.List.{filter_map}
 use Rattle.std.specs.List.Sorted.{IsStrictlyIncreasing}
-use Rattle.vrx_core.specs.Meaning.{Meaning}
+use Rattle.vrx_codec.specs.Meaning.{Meaning}
 use Rattle.vrx_core.specs.Machine.{Reply, ToDatagram, ToPull, replies}
 use Rattle.vrx_core.specs.Sender.{SentFrame, Sender}
 use Rattle.vrx_core.specs.Chain.{InChain}

@@ -1,7 +1,7 @@
 -- An honest network: what it brings comes from the sender, or is octets of a form that the receiver doesn't take,
 -- whatever came before. Loss, repeats and order are free. So far there is no condition on pictures: frames have none.
 use Rattle.std.specs.Prelude.{◌≡◌, ℕ, ◌+◌, ◌≤◌, max, Bool, true, if◌then◌else◌, List, [], ◌∷◌, slice_get, IsSomeAnd, is_ok}
-use Rattle.vrx_core.specs.Meaning.{Meaning}
+use Rattle.vrx_codec.specs.Meaning.{Meaning}
 use Rattle.vrx_core.specs.Form.{is_form}
 use Rattle.vrx_core.specs.Verdict.{verdict}
 use Rattle.vrx_core.specs.Machine.{Snapshot, latest, snapshots}

@@ -1,6 +1,6 @@
 -- The runs of an honest call are the sender's frames.
 use Rattle.std.specs.Prelude.{◌≡◌, ℕ, true, List, [], ◌∷◌, map, slice_get, Contains, Some, None}
-use Rattle.vrx_core.specs.Meaning.{Meaning}
+use Rattle.vrx_codec.specs.Meaning.{Meaning}
 use Rattle.vrx_core.specs.Run.{Run, runs}
 use Rattle.vrx_core.specs.Deliverable.{stands}
 use Rattle.vrx_core.specs.Machine.{Snapshot, latest, last_pulled, snapshots}

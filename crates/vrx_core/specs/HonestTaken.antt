@@ -1,6 +1,6 @@
 -- What a receiver takes and keeps in an honest call, in the sender's terms alone.
 use Rattle.std.specs.Prelude.{◌≡◌, ℕ, ◌+◌, ◌<◌, ◌↔◌, true, List, [], ◌∷◌, slice_get, Contains, Some, IsSomeAnd}
-use Rattle.vrx_core.specs.Meaning.{Meaning}
+use Rattle.vrx_codec.specs.Meaning.{Meaning}
 use Rattle.vrx_core.specs.Window.{at, is_available}
 use Rattle.vrx_core.specs.Machine.{ToDatagram, latest, snapshots, reply}
 use Rattle.vrx_core.specs.Sender.{Sender}

@@ -1,7 +1,7 @@
 -- What the runs are, each condition by itself.
 use Rattle.std.specs.Prelude.{◌≡◌, ◌↔◌, ℕ, ◌+◌, ◌≤◌, true, List, [], ◌∷◌, map, length, slice_get, All, Contains, Option, Some, IsSomeAnd, Ok}
 use Rattle.vrx_rtp.specs.Reading.{read}
-use Rattle.vrx_core.specs.Meaning.{Meaning}
+use Rattle.vrx_codec.specs.Meaning.{Meaning}
 use Rattle.vrx_core.specs.Window.{Media, Packets, at}
 use Rattle.vrx_core.specs.Run.{Piece, Run, is_start, runs}
 

@@ -1,6 +1,3 @@
-pub mod Part
-pub mod Meaning
-pub mod Descriptor
 pub mod Window
 pub mod History
 pub mod Form

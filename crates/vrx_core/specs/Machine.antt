@@ -2,7 +2,7 @@
 -- up nothing.
 use Rattle.std.specs.Prelude.{ℕ, max, List, [], ◌∷◌, map, Option, Some, None, Result, Ok, Err}
 use Rattle.std.specs.Option.{option_map}
-use Rattle.vrx_core.specs.Meaning.{Meaning}
+use Rattle.vrx_codec.specs.Meaning.{Meaning}
 use Rattle.vrx_core.specs.Window.{Content, Packets, newest_with, placed}
 use Rattle.vrx_core.specs.Verdict.{verdict}
 use Rattle.vrx_core.specs.Run.{Run, runs}

@@ -1,6 +1,6 @@
 -- What holds of the passed numbers.
 use Rattle.std.specs.Prelude.{◌≡◌, ℕ, true, false, List, [], ◌∷◌}
-use Rattle.vrx_core.specs.Meaning.{Meaning}
+use Rattle.vrx_codec.specs.Meaning.{Meaning}
 use Rattle.vrx_core.specs.Run.{is_passed}
 use Rattle.vrx_core.specs.Machine.{latest, snapshots}
 use Rattle.vrx_core.specs.declared.settings.Settings.{Settings}

@@ -1,6 +1,6 @@
 -- A ready frame: one of the sender's frames that a pull may give. So far no frame has layers.
 use Rattle.std.specs.Prelude.{◌≡◌, ℕ, ◌+◌, ◌<◌, ◌≤◌, true, List, [], ◌∷◌, slice_get, All, Contains, Some}
-use Rattle.vrx_core.specs.Meaning.{Meaning}
+use Rattle.vrx_codec.specs.Meaning.{Meaning}
 use Rattle.vrx_core.specs.Window.{is_available}
 use Rattle.vrx_core.specs.Run.{is_passed}
 use Rattle.vrx_core.specs.Machine.{latest, snapshots}

@@ -1,6 +1,6 @@
 -- The engine as contracts see it, and the history that it stands for.
 use Rattle.std.specs.Prelude.{◌≡◌, ◌≤◌, ◌<◌, ◌⊎◌, ℕ, false, List, length, Contains, Option}
-use Rattle.vrx_core.specs.Meaning.{Meaning}
+use Rattle.vrx_codec.specs.Meaning.{Meaning}
 use Rattle.vrx_core.specs.Window.{Packets}
 use Rattle.vrx_core.specs.Run.{Run, runs}
 use Rattle.vrx_core.specs.Deliverable.{is_deliverable}

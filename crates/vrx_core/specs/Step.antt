@@ -4,7 +4,7 @@ use Rattle.std.specs.List.{flat_map}
 use Rattle.std.specs.Option.{option_map, option_map_or, option_and_then, option_or}
 use Rattle.std.specs.Ordering.{nat_cmp}
 use Rattle.std.specs.FinMap.Entries.{is_sorted}
-use Rattle.vrx_core.specs.Descriptor.{bit}
+use Rattle.vrx_vp8.specs.Descriptor.{bit}
 use Rattle.vrx_core.specs.Form.{is_form}
 use Rattle.vrx_core.specs.Window.{Content, Media, Packets, newest_with, placed}
 use Rattle.vrx_rtp.specs.Packet.{Packet}

@@ -1,7 +1,7 @@
 //! The engine: two events and what each answers.
 
 ghost use Rattle.std.specs.Prelude.{◌≡◌, ◌+◌, ◌<◌, ◌≤◌, ◌↔◌, max, List, [], ◌∷◌, None, OnOk, OnErr, IfOk, IsOk, IsErr, IsErrOf, IsTrue};
-ghost use Rattle.vrx_core.specs.Descriptor.{vp8};
+ghost use Rattle.vrx_vp8.specs.Descriptor.{vp8};
 ghost use Rattle.vrx_core.specs.Machine.{Reply, ToDatagram, ToPull, what_of, pulled_of, reply};
 ghost use Rattle.vrx_core.specs.Verdict.{verdict as verdict_of};
 ghost use Rattle.vrx_core.specs.StandsFor.{StandsFor, NoneDeliverable, IsBadType};

@@ -4,7 +4,7 @@ ghost use Rattle.std.specs.Prelude.{◌≡◌, ◌+◌, ◌*◌, ◌/◌, ◌%�
 ghost use Rattle.std.specs.List.{list_any};
 ghost use Rattle.vrx_rtp.specs.Reading.{read as packet_read};
 ghost use Rattle.vrx_rtp.specs.View.{view};
-ghost use Rattle.vrx_core.specs.Descriptor.{bit as bit_of};
+ghost use Rattle.vrx_vp8.specs.Descriptor.{bit as bit_of};
 ghost use Rattle.vrx_core.specs.Form.{packet_forms, is_form};
 
 use crate::settings::Settings;

@@ -5,7 +5,7 @@ use Rattle.std.specs.Option.{option_map}
 use Rattle.vrx_io.specs.Source.{IsSpent}
 use Rattle.vrx_io.specs.Sink.{extended, TakesPart}
 use Rattle.vrx_io.proofs.SinkLemmas.{takes_part_longer, takes_part_later}
-use Rattle.vrx_core.specs.Descriptor.{vp8}
+use Rattle.vrx_vp8.specs.Descriptor.{vp8}
 use Rattle.vrx_core.specs.Machine.{reply}
 use Rattle.vrx_core.specs.StandsFor.{Parts, StandsFor}
 use Rattle.vrx_core.specs.declared.settings.Settings.{Settings}

@@ -2,10 +2,10 @@
 use Rattle.std.proofs.Common.{◌≡◌, ℕ, zero, suc, List, [], ◌∷◌, ◌++◌, codes, refl, true, false, None, append_assoc, append-nil, arith}
 use Rattle.std.specs.Fmt.{decimal}
 use Rattle.std.proofs.lemmas.List.Elements.{All-nil}
-use Rattle.vrx_core.specs.Descriptor.{vp8}
+use Rattle.vrx_vp8.specs.Descriptor.{vp8}
 use Rattle.vrx_core.specs.Machine.{snapshots, reply}
 use Rattle.vrx_core.specs.Sender.{SentFrame, Media, Sender}
-use Rattle.vrx_core.specs.Part.{Yes, No}
+use Rattle.vrx_codec.specs.declared.part.Start.TheVariants.{Yes, No}
 use Rattle.vrx_core.specs.Chain.{InChain}
 use Rattle.vrx_core.specs.HonestSender.{Carried, IsPart, Travels, HonestSender}
 use Rattle.vrx_core.specs.HonestNetwork.{FromSender, Elsewhere, taken}

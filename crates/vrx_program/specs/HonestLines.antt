@@ -1,6 +1,6 @@
 -- The lines of an honest call.
 use Rattle.std.specs.Prelude.{◌≡◌, ◌⊎◌, ℕ, List, [], ◌∷◌, ◌++◌, map, Option, Some, IsSomeAnd}
-use Rattle.vrx_core.specs.Descriptor.{vp8}
+use Rattle.vrx_vp8.specs.Descriptor.{vp8}
 use Rattle.vrx_core.specs.Machine.{Reply, replies}
 use Rattle.vrx_core.specs.Sender.{Sender}
 use Rattle.vrx_core.specs.HonestSender.{HonestSender}

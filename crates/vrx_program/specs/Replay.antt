@@ -1,6 +1,6 @@
 -- What a replay of a capture gives: a status and a text.
 use Rattle.std.specs.Prelude.{ℕ, Bool, ◌&&◌, ◌||◌, ◌==◌, nat_lt, nat_le, if◌then◌else◌, List, [], ◌∷◌, ◌++◌, length, Option, Some, None}
-use Rattle.vrx_core.specs.Descriptor.{vp8}
+use Rattle.vrx_vp8.specs.Descriptor.{vp8}
 use Rattle.vrx_core.specs.declared.settings.Settings.{Settings}
 use Rattle.vrx_core.specs.declared.event.Event.{Event}
 use Rattle.vrx_text.specs.Line.{lines_of, settings_in}

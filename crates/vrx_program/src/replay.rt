@@ -4,7 +4,7 @@ ghost use Rattle.std.specs.Prelude.{◌≡◌, ◌≢◌, ℕ, ◌+◌, ◌<◌,
 ghost use Rattle.std.specs.String.{string_bytes};
 ghost use Rattle.vrx_io.specs.Faults.{Rose};
 ghost use Rattle.vrx_io.specs.Sink.{extended};
-ghost use Rattle.vrx_core.specs.Descriptor.{vp8};
+ghost use Rattle.vrx_vp8.specs.Descriptor.{vp8};
 ghost use Rattle.vrx_core.specs.Machine.{reply};
 ghost use Rattle.vrx_core.specs.StandsFor.{StandsFor};
 ghost use Rattle.vrx_core.specs.declared.event.Event.{Event};

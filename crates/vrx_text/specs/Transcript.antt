@@ -2,7 +2,7 @@
 use Rattle.std.specs.Prelude.{ℕ, Bool, true, false, List, [], ◌∷◌, ◌++◌, codes}
 use Rattle.std.specs.Fmt.{decimal}
 use Rattle.hex.specs.Hex.{encode_lower}
-use Rattle.vrx_core.specs.Meaning.{Meaning}
+use Rattle.vrx_codec.specs.Meaning.{Meaning}
 use Rattle.vrx_core.specs.Machine.{Reply, ToDatagram, ToPull, reply}
 use Rattle.vrx_core.specs.declared.settings.Settings.{Settings}
 use Rattle.vrx_core.specs.declared.event.Event.{Event}

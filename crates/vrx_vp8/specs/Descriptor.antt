@@ -14,8 +14,11 @@
 --     +-+-+-+-+-+-+-+-+
 use Rattle.std.specs.Prelude.{ℕ, ◌+◌, ◌*◌, ◌/◌, ◌%◌, Bool, true, false, ◌&&◌, ◌||◌, ◌==◌, if◌then◌else◌, List, [], ◌∷◌, length, Option, Some, None, Result, Ok, Err}
 use Rattle.std.specs.List.{flat_map}
-use Rattle.vrx_core.specs.Part.{Yes, No, Layers, Part, PartFault}
-use Rattle.vrx_core.specs.Meaning.{Meaning}
+use Rattle.vrx_codec.specs.Part.{Part}
+use Rattle.vrx_codec.specs.declared.part.Start.TheVariants.{Yes, No}
+use Rattle.vrx_codec.specs.declared.part.Layers.{Layers}
+use Rattle.vrx_codec.specs.declared.fault.PartFault.{PartFault}
+use Rattle.vrx_codec.specs.Meaning.{Meaning}
 
 -- the bit of an octet that has this value
 abbrev pub bit : ℕ → ℕ → Bool

@@ -1,6 +1,8 @@
 -- What a codec means: all that the receiver asks of it.
 use Rattle.std.specs.Prelude.{ℕ, List, Result}
-use Rattle.vrx_core.specs.Part.{Part, PartFault, JoinFault}
+use Rattle.vrx_codec.specs.Part.{Part}
+use Rattle.vrx_codec.specs.declared.fault.PartFault.{PartFault}
+use Rattle.vrx_codec.specs.declared.fault.JoinFault.{JoinFault}
 
 -- how a payload reads, and to which bytes a list of parts joins
 pub record Meaning : Type 0 where

@@ -1,0 +1,62 @@
+-- How a codec joins parts one after the other, and what that has to do with what it means.
+use Rattle.std.specs.Prelude.{◌≡◌, ℕ, ◌+◌, ◌*◌, ◌<◌, ◌≤◌, List, [], ◌∷◌, ◌++◌, length, All, None, IfSome, Result, Ok, Err}
+use Rattle.vrx_codec.specs.Part.{Part}
+use Rattle.vrx_codec.specs.declared.part.Layers.{Layers}
+use Rattle.vrx_codec.specs.declared.fault.JoinFault.{JoinFault}
+use Rattle.vrx_codec.specs.Meaning.{Meaning}
+use Rattle.vrx_codec.specs.declared.join.Join.{Join}
+
+-- what a part makes of what was joined before it, how many octets were joined in the end, and which octets a part adds
+pub record Joining : Type 0 where
+  pub step : Join → Part → Result Join JoinFault
+  pub end : Join → Result ℕ JoinFault
+  pub adds : Join → Part → List ℕ
+
+-- joining begins so: no unit is open, and there are no octets
+abbrev pub beginning : Join
+beginning = record { unit = None; octets = 0 }
+
+-- no more octets, where the end is right
+abbrev pub ended : Result ℕ JoinFault → Result (List ℕ) JoinFault
+ended (Ok octets) = Ok []
+ended (Err fault) = Err fault
+
+-- these octets, and what is joined behind them
+abbrev pub with_front : List ℕ → Result (List ℕ) JoinFault → Result (List ℕ) JoinFault
+with_front front (Ok octets) = Ok (front ++ octets)
+with_front front (Err fault) = Err fault
+
+-- what comes next, where there was no fault
+abbrev pub and_then : Result Join JoinFault → (Join → Result (List ℕ) JoinFault) → Result (List ℕ) JoinFault
+and_then (Ok state) next = next state
+and_then (Err fault) next = Err fault
+
+-- the octets that the parts add one after the other, from a state on
+abbrev pub joined : Joining → List Part → Join → Result (List ℕ) JoinFault
+joined joining [] state = ended (joining.end state)
+joined joining (part ∷ parts) state =
+    and_then (joining.step state part) (λ next. with_front (joining.adds state part) (joined joining parts next))
+
+-- each is an octet
+abbrev pub AreOctets : List ℕ → Type 0
+AreOctets octets = All (λ octet. octet < 256) octets
+
+-- the part that some payload reads as
+pub record IsPartRead (meaning : Meaning) (part : Part) : Type 0 where
+  pub payload : List ℕ
+  pub octets : AreOctets payload
+  pub reads : meaning.read payload ≡ Ok part
+
+-- a picture has 15 bits, and a temporal layer two (RFC 7741 4.2)
+abbrev pub FitsLayers : Layers → Type 0
+FitsLayers layers = (layers.picture < 32768) × (layers.tid < 4)
+
+-- a part of a payload: its body has at most as many octets, and its layers fit
+abbrev pub IsWithin : List ℕ → Part → Type 0
+IsWithin payload part = (length part.body ≤ length payload) × IfSome part.layers FitsLayers
+
+-- a step raises the octets by exactly those that the part adds, which are at most five times those of its body
+abbrev pub Raises : Joining → Join → Part → Join → Type 0
+Raises joining state part next =
+    let added : ℕ = length (joining.adds state part) in
+    (next.octets ≡ state.octets + added) × (added ≤ 5 * length part.body)

@@ -1,0 +1,4 @@
+pub mod Joining
+pub mod Meaning
+pub mod Part
+pub mod View

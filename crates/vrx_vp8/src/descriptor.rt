@@ -1,0 +1,123 @@
+//! From a payload to the fields of its descriptor.
+
+ghost use Rattle.std.specs.Prelude.{◌≡◌, ℕ, ◌+◌, ◌*◌, ◌/◌, ◌%◌, ◌<◌, ◌&&◌, if◌then◌else◌, length, Some, None};
+ghost use Rattle.std.specs.Option.{option_map};
+ghost use Rattle.vrx_codec.specs.View.{view_result};
+ghost use Rattle.vrx_vp8.specs.Descriptor.{bit as bit_of, octet_if as octet_if_of, fields_behind as fields_behind_of, fields as fields_of, part_with as part_with_of, read_part as read_part_of};
+ghost use Rattle.vrx_vp8.specs.View.{view_fields};
+
+use vrx_codec::{Layers, Part, PartFault, Start};
+
+/// The fault of a descriptor that runs past the end.
+const SHORT: u8 = 1;
+
+/// The fault of a descriptor that nothing follows.
+const NO_BODY: u8 = 2;
+
+/// The fields of a descriptor, and what follows it.
+#[derive(Clone, Copy)]
+pub(crate) struct FieldsSeen<'a> {
+    start: bool,
+    layers: Option<Layers>,
+    body: &'a [u8],
+}
+
+/// The bit of an octet that has this value.
+fn bit(octet: u8, value: u8) -> bool
+    requires { 0 < value }
+    ensures { result ≡ bit_of value octet }
+{
+    octet / value % 2 == 1
+}
+
+/// The next octet and what is behind it, where a flag says that it comes: else 0, and nothing is taken. None where it
+/// would stand past the end.
+fn octet_if(flag: bool, rest: &[u8]) -> Option<(u8, &[u8])>
+    ensures { option_map (λ x. (x.0, x.1.now)) result ≡ octet_if_of flag rest.now }
+{
+    if !flag {
+        return Some((0, rest));
+    }
+    match rest {
+        [octet, rest @ ..] => Some((*octet, rest)),
+        [] => None,
+    }
+}
+
+/// The place among temporal layers that the octets of flags, of PictureID, of TL0PICIDX and of TID say.
+fn layers_of(flags: u8, picture: u8, low: u8, tl0: u8, tid: u8) -> Option<Layers>
+    ensures { result ≡ (if bit_of 128 picture && bit_of 64 flags && bit_of 32 flags
+        then Some (record { picture = picture % 128 * 256 + low; tl0 = tl0; tid = tid / 64; sync = bit_of 32 tid })
+        else None) }
+{
+    if bit(picture, 128) && bit(flags, 64) && bit(flags, 32) {
+        Some(Layers {
+            picture: u16::from(picture % 128) * 256 + u16::from(low),
+            tl0,
+            tid: tid / 64,
+            sync: bit(tid, 32),
+        })
+    } else {
+        None
+    }
+}
+
+/// The fields behind the first octet and the octet of extension flags.
+fn fields_behind(head: u8, flags: u8, rest: &[u8]) -> Option<FieldsSeen<'_>>
+    ensures { option_map view_fields result ≡ fields_behind_of head (flags, rest.now) }
+{
+    let (picture, rest) = octet_if(bit(flags, 128), rest)?;
+    let (low, rest) = octet_if(bit(picture, 128), rest)?;
+    let (tl0, rest) = octet_if(bit(flags, 64), rest)?;
+    let (tid, body) = octet_if(bit(flags, 32) || bit(flags, 16), rest)?;
+    Some(FieldsSeen {
+        start: bit(head, 16) && head % 8 == 0,
+        layers: layers_of(flags, picture, low, tl0, tid),
+        body,
+    })
+}
+
+/// The fields of the descriptor at the front of a payload.
+fn fields(payload: &[u8]) -> Option<FieldsSeen<'_>>
+    ensures { option_map view_fields result ≡ fields_of payload.now }
+{
+    let (head, rest) = octet_if(true, payload)?;
+    let (flags, rest) = octet_if(bit(head, 128), rest)?;
+    fields_behind(head, flags, rest)
+}
+
+/// The part that the fields of a payload of `len` octets give.
+fn part_with(len: usize, fields: FieldsSeen<'_>) -> Result<Part<'_>, PartFault>
+    ensures { view_result result ≡ part_with_of len (view_fields fields.entry) fields.entry.body.now }
+{
+    let FieldsSeen {
+        start,
+        layers,
+        body,
+    } = fields;
+    match body {
+        [] => Err(PartFault {
+            code: NO_BODY,
+            at: len,
+        }),
+        [first, ..] => Ok(Part {
+            start: if start { Start::Yes } else { Start::No },
+            key: start && *first % 2 == 0,
+            layers,
+            body,
+        }),
+    }
+}
+
+/// The part that a payload is, or its fault.
+pub(crate) fn part_of(payload: &[u8]) -> Result<Part<'_>, PartFault>
+    ensures { view_result result ≡ read_part_of payload.now }
+{
+    match fields(payload) {
+        Some(fields) => part_with(payload.len(), fields),
+        None => Err(PartFault {
+            code: SHORT,
+            at: payload.len(),
+        }),
+    }
+}

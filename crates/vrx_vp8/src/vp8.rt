@@ -1,0 +1,52 @@
+//! VP8 as a codec.
+
+ghost use Rattle.std.specs.Prelude.{◌≡◌};
+ghost use Rattle.vrx_vp8.specs.Descriptor.{vp8};
+ghost use Rattle.vrx_vp8.specs.Joining.{joining as joining_of};
+ghost use Rattle.vrx_vp8.specs.Laws.{vp8_within, vp8_joins};
+ghost use Rattle.std.proofs.Common.{rules, arith};
+
+use crate::descriptor::part_of;
+use vrx_codec::{Codec, Join, JoinFault, Part, PartFault};
+
+/// VP8 (RFC 7741). Its parts always join, to their bodies one after the other.
+///
+/// A payload that isn't read has fault 1 where its descriptor runs past the end, and else fault 2, where nothing follows
+/// the descriptor: both at the payload's end.
+#[derive(Clone, Copy, Debug, PartialEq, Eq)]
+pub struct Vp8;
+
+impl Codec for Vp8 {
+    ghost meaning = { vp8 };
+
+    ghost joining = { joining_of };
+
+    fn read_part(payload: &[u8]) -> Result<Part<'_>, PartFault> {
+        part_of(payload)
+    }
+
+    fn step(state: Join, part: &Part<'_>) -> Result<Join, JoinFault> {
+        Ok(Join {
+            unit: state.unit,
+            octets: state.octets + part.body.len() as u32,
+        })
+    }
+
+    fn end(state: Join) -> Result<u32, JoinFault> {
+        Ok(state.octets)
+    }
+
+    fn append(_state: Join, part: &Part<'_>, out: &mut Vec<u8>) {
+        let Ok(()) = out.extend_from_slice(part.body) else {
+            unreachable!()
+        };
+    }
+
+    ghost within = { vp8_within };
+
+    ghost joins = { vp8_joins };
+
+    ghost counted = { Prim.search rules };
+
+    ghost raises = { Prim.search rules };
+}
