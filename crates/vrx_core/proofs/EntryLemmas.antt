@@ -1,11 +1,12 @@
 -- Maps of packets whose keys rise, and what stands at a key.
-use Rattle.std.proofs.Common.{◌≡◌, ◌≢◌, ℕ, ◌<◌, Bool, true, false, cond, [], ◌∷◌, refl, sym, ◌∙◌, ap, arith, inl, inr}
+use Rattle.std.proofs.Common.{◌≡◌, ◌≢◌, ℕ, ◌<◌, Bool, true, false, cond, [], ◌∷◌, refl, ◌∙◌, ap}
 use Rattle.std.specs.Prelude.{Some, None, nat_lt, eqb}
 use Rattle.std.specs.Ordering.{nat_cmp, is_lt, is_eq, eq_by_cmp}
 use Rattle.std.specs.declared.cmp.Ordering.TheVariants.{Less, Equal, Greater}
-use Rattle.std.proofs.lemmas.Bool.{ltb-true, lt-ltb, le-ltb, eq-eqb, ne_eqb, cases_Bool, true≢false, and_parts}
+use Rattle.std.proofs.lemmas.Bool.{lt-ltb, ne_eqb, and_parts}
 use Rattle.std.specs.FinMap.Entries.{below_all, is_sorted}
 use Rattle.vrx_core.specs.Window.{Content, Packets, at}
+use Rattle.vrx_core.proofs.KeyLemmas.{less_key, key_same}
 
 -- every key of these entries lies above k
 abbrev pub Above : ℕ → Packets → Type 0
@@ -17,18 +18,9 @@ abbrev pub Rising : Packets → Type 0
 Rising [] = Unit {0}
 Rising (e ∷ es) = Above e.0 es × Rising es
 
-is_lt_less : (x y : ℕ) → is_lt (nat_cmp x y) ≡ true → x < y
-is_lt_less x y h = elim (cases_Bool (nat_lt x y)) [
-  | inl less ↦ ltb-true x y less
-  | inr more ↦ absurd (true≢false (sym h ∙ ap (λ b. is_lt (cond b Less (cond (eqb x y) Equal Greater))) more ∙ not_less (eqb x y)))
-] where
-  not_less : (b : Bool) → is_lt (cond b Equal Greater) ≡ false
-  not_less true = refl
-  not_less false = refl
-
 above_from : (k : ℕ) (es : Packets) → below_all nat_cmp k es ≡ true → Above k es
 above_from k [] h = tt
-above_from k (e ∷ es) h = let both = and_parts (is_lt (nat_cmp k e.0)) (below_all nat_cmp k es) h in (is_lt_less k e.0 both.0, above_from k es both.1)
+above_from k (e ∷ es) h = let both = and_parts (is_lt (nat_cmp k e.0)) (below_all nat_cmp k es) h in (less_key k e.0 both.0, above_from k es both.1)
 
 -- a sorted map's keys strictly rise
 pub rising_from : (es : Packets) → is_sorted nat_cmp es ≡ true → Rising es
@@ -42,11 +34,8 @@ at_none k (e ∷ es) above = ap (λ b. cond (is_eq b) (Some e.1) (at k es)) (con
   cond_less : (x y : ℕ) → x < y → nat_cmp x y ≡ Less
   cond_less x y less = ap (λ b. cond b Less (cond (eqb x y) Equal Greater)) (lt-ltb x y less)
 
--- two numbers compare alike exactly where they are equal
-pub eq_here : (k : ℕ) → eq_by_cmp nat_cmp k k ≡ true
-eq_here k = ap (λ b. is_eq (cond b Less (cond (eqb k k) Equal Greater))) (le-ltb k k (omega arith)) ∙ ap (λ b. is_eq (cond b Equal Greater)) (eq-eqb k k refl)
-
-pub eq_apart : (k n : ℕ) → k ≢ n → eq_by_cmp nat_cmp k n ≡ false
+-- two numbers that aren't equal don't compare alike
+eq_apart : (k n : ℕ) → k ≢ n → eq_by_cmp nat_cmp k n ≡ false
 eq_apart k n apart = ap (λ b. is_eq (cond (nat_lt k n) Less (cond b Equal Greater))) (ne_eqb k n apart) ∙ neither (nat_lt k n) where
   neither : (b : Bool) → is_eq (cond b Less Greater) ≡ false
   neither true = refl
@@ -54,7 +43,7 @@ eq_apart k n apart = ap (λ b. is_eq (cond (nat_lt k n) Less (cond b Equal Great
 
 -- what stands at a key of a map
 pub at_here : (e : ℕ × Content) (es : Packets) → at e.0 (e ∷ es) ≡ Some e.1
-at_here e es = ap (λ b. cond b (Some e.1) (at e.0 es)) (eq_here e.0)
+at_here e es = ap (λ b. cond b (Some e.1) (at e.0 es)) (key_same e.0)
 
 pub at_later : (k : ℕ) (e : ℕ × Content) (es : Packets) → k ≢ e.0 → at k (e ∷ es) ≡ at k es
 at_later k e es apart = ap (λ b. cond b (Some e.1) (at k es)) (eq_apart k e.0 apart)

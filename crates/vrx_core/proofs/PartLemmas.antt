@@ -25,13 +25,7 @@ pub some_there : {A : Type 0} (P : A → Type 0) (o : Option A) → IsSomeAnd o 
 some_there P None p = absurd p
 some_there P (Some x) p = (x, refl, p)
 
--- the frame of a packet, its part, and its text
-abbrev pub frame_in : SentPacket → ℕ
-frame_in (Media f k text) = f
-
-abbrev pub part_in : SentPacket → ℕ
-part_in (Media f k text) = k
-
+-- the text of a packet
 abbrev pub text_in : SentPacket → List ℕ
 text_in (Media f k text) = text
 
