@@ -51,7 +51,7 @@ def main():
             kind, ts, bodies, first = frames[ready]
             print(k, "frame", first + shift, first + shift + len(bodies) - 1, kind, ts, b"".join(bodies).hex())
             continue
-        answer = "drop Form"
+        answer = "drop OtherSsrc"
         if word == "came":
             place = frames[int(words[1])][3] + int(words[2])
             if newest is None:

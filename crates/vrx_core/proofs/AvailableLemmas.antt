@@ -6,12 +6,12 @@ use Rattle.std.proofs.lemmas.Option.{none-some, same_Some}
 use Rattle.vrx_codec.specs.Meaning.{Meaning}
 use Rattle.vrx_core.specs.Window.{Content, Packets, at, in_window, newest_with, placed}
 use Rattle.vrx_core.specs.Verdict.{verdict}
-use Rattle.vrx_core.specs.Machine.{Reply, ToDatagram, Snapshot, latest, next_frame, after_datagram, after_pull, what_of, snapshots}
+use Rattle.vrx_core.specs.Machine.{handled_as, Reply, ToDatagram, Snapshot, latest, next_frame, after_datagram, after_pull, what_of, snapshots}
 use Rattle.vrx_core.specs.Available.{WasTaken, IsInWindow, AvailableHolds}
 use Rattle.vrx_core.specs.declared.settings.Settings.{Settings}
 use Rattle.vrx_core.specs.declared.event.Event.{Event}
 use Rattle.vrx_core.specs.declared.event.Event.TheVariants.{Datagram, Pull}
-use Rattle.vrx_core.specs.declared.reply.Reason.{Reason}
+use Rattle.vrx_core.specs.declared.form.NotTaken.{NotTaken}
 use Rattle.vrx_core.specs.declared.reply.Frame.{Frame}
 use Rattle.vrx_core.specs.declared.reply.What.TheVariants as what_became
 use Rattle.vrx_core.proofs.KeyLemmas.{same_key}
@@ -53,7 +53,7 @@ module _ (settings : Settings) (codec : Meaning) (h : List Event) (n : ℕ) (con
   taken_before e w = record { before = w.before; moment = w.moment; octets = w.octets; after = e ∷ w.after; history = ap (λ (t : List Event). e ∷ t) w.history; taken = w.taken; media = w.media }
 
   -- what is available after a datagram
-  available_after : (moment : ℕ) (octets : List ℕ) (v : Result (ℕ × Content) Reason) → verdict settings (latest (snapshots settings codec h)).newest (latest (snapshots settings codec h)).packets octets ≡ v
+  available_after : (moment : ℕ) (octets : List ℕ) (v : Result (ℕ × Content) NotTaken) → verdict settings (latest (snapshots settings codec h)).newest (latest (snapshots settings codec h)).packets octets ≡ v
       → (at n (latest (snapshots settings codec h)).packets ≡ Some content → WasTaken settings codec h n content × IsInWindow (latest (snapshots settings codec h)).newest n)
       → at n (after_datagram (latest (snapshots settings codec h)) moment v).packets ≡ Some content → WasTaken settings codec (Datagram moment octets ∷ h) n content × IsInWindow (after_datagram (latest (snapshots settings codec h)) moment v).newest n
   available_after moment octets (Err reason) is old there = (taken_before (Datagram moment octets) (old there).0, (old there).1)
@@ -77,11 +77,11 @@ module _ (settings : Settings) (codec : Meaning) (h : List Event) (n : ℕ) (con
             )
         | inr more ↦ (taken_before (Datagram moment octets) (old more.1).0, window-order (newest_with s.newest m) n more.0)
       ] where
-        answered : Result (ℕ × Content) Reason → Reply
-        answered v = ToDatagram (record { what = what_of v })
+        answered : Result (ℕ × Content) NotTaken → Reply
+        answered v = ToDatagram (handled_as (what_of v))
 
         answered_media : ℕ → Reply
-        answered_media k = ToDatagram (record { what = what_became.Media k })
+        answered_media k = ToDatagram (handled_as (what_became.Media k))
 
 -- what is available was taken, and lies in the window
 pub available_are : AvailableHolds

@@ -1,32 +1,22 @@
 -- A datagram of a form that the receiver takes is a part of a VP8 frame.
-use Rattle.std.proofs.Common.{◌≡◌, ℕ, ◌+◌, ◌%◌, ◌≤◌, Bool, true, false, not, ◌&&◌, if◌then◌else◌, List, [], ◌∷◌, length, drop, refl, sym, ◌∙◌, ap, subst, arith}
-use Rattle.std.specs.Prelude.{Option, Some, None, Ok, nat_lt, slice_index, ◌==◌}
-use Rattle.std.specs.List.{list_any}
+use Rattle.std.proofs.Common.{◌≡◌, ℕ, ◌%◌, ◌≤◌, Bool, true, false, not, ◌&&◌, if◌then◌else◌, List, [], ◌∷◌, length, drop, refl, sym, ◌∙◌, ap, subst, arith}
+use Rattle.std.specs.Prelude.{Option, Some, None, is_some, Result, Ok, Err, nat_lt, slice_index, ◌==◌}
 use Rattle.std.specs.Option.{option_map}
 use Rattle.std.specs.Result.{result_ok}
-use Rattle.std.proofs.lemmas.Bool.{ltb-false, le-ltb, eqb-true, or_parts, true≢false}
-use Rattle.std.proofs.lemmas.Option.{none-some, same_Some}
+use Rattle.std.proofs.lemmas.Bool.{ltb-false, eqb-true, or_parts, true≢false}
+use Rattle.std.proofs.lemmas.Option.{same_Some}
 use Rattle.vrx_rtp.specs.Packet.{Packet}
-use Rattle.vrx_rtp.specs.Reading.{read}
+use Rattle.vrx_rtp.specs.Reading.{reading, read}
+use Rattle.vrx_rtp.specs.Rtcp.{is_rtcp}
+use Rattle.vrx_rtp.specs.declared.fault.RtpFault.{RtpFault}
 use Rattle.vrx_codec.specs.Part.{Part}
 use Rattle.vrx_codec.specs.declared.part.Start.TheVariants.{Yes, No}
 use Rattle.vrx_vp8.specs.Descriptor.{bit, octet_if, ◌>>=◌, fields_behind, part_of, read_part}
-use Rattle.vrx_core.specs.Form.{reading_forms, is_form}
+use Rattle.vrx_core.specs.Form.{is_form, reading_reason, control, is_aside}
 use Rattle.vrx_core.specs.Step.{begins_frame, is_key}
 use Rattle.vrx_core.specs.declared.settings.Settings.{Settings}
-
--- the payload of a packet whose first octet is 128 is all that stands behind the twelve octets of its header
-plain_payload : (second s1 s0 t3 t2 t1 t0 c3 c2 c1 c0 : ℕ) (payload : List ℕ) → option_map (λ (q : Packet). q.payload) (read (128 ∷ second ∷ s1 ∷ s0 ∷ t3 ∷ t2 ∷ t1 ∷ t0 ∷ c3 ∷ c2 ∷ c1 ∷ c0 ∷ payload)) ≡ Some payload
-plain_payload second s1 s0 t3 t2 t1 t0 c3 c2 c1 c0 payload = rw (le-ltb (length payload) 0 (omega arith)) refl
-
--- so such a packet has twelve octets fewer in its payload
-pub length-payload : (octets : List ℕ) (p : Packet) → slice_index octets 0 ≡ 128 → read octets ≡ Some p → length octets ≡ 12 + length p.payload
-length-payload (first ∷ second ∷ s1 ∷ s0 ∷ t3 ∷ t2 ∷ t1 ∷ t0 ∷ c3 ∷ c2 ∷ c1 ∷ c0 ∷ payload) p plain h =
-    let whole : read (128 ∷ second ∷ s1 ∷ s0 ∷ t3 ∷ t2 ∷ t1 ∷ t0 ∷ c3 ∷ c2 ∷ c1 ∷ c0 ∷ payload) ≡ Some p = subst (λ (n : ℕ). read (n ∷ second ∷ s1 ∷ s0 ∷ t3 ∷ t2 ∷ t1 ∷ t0 ∷ c3 ∷ c2 ∷ c1 ∷ c0 ∷ payload) ≡ Some p) plain h in
-    let payload_is : payload ≡ p.payload = same_Some payload p.payload (sym (plain_payload second s1 s0 t3 t2 t1 t0 c3 c2 c1 c0 payload) ∙ ap (option_map (λ (q : Packet). q.payload)) whole) in
-    let same : length payload ≡ length p.payload = ap length payload_is in
-    omega arith
-length-payload octets p plain h = absurd (none-some p h)
+use Rattle.vrx_core.specs.declared.form.NotTaken.TheVariants.{Refused}
+use Rattle.vrx_core.specs.declared.reply.Reason.TheVariants.{TooLong, OtherSsrc, OtherType, Form}
 
 -- what is said of a payload: it has a frame's octet behind the descriptor's first, and no extension octets
 pub record SaysPart (payload : List ℕ) : Type 0 where
@@ -47,30 +37,40 @@ not_refused : (b : Bool) → not b ≡ false → b ≡ true
 not_refused true h = refl
 not_refused false h = absurd (true≢false h)
 
+-- where nothing comes of a test and of what follows, the test fails, and nothing comes of what follows
+open_test : {A : Type 0} (b : Bool) (x : A) (o : Option A) → is_some (if b then Some x else o) ≡ false → (b ≡ false) × (is_some o ≡ false)
+open_test true x o h = absurd (true≢false h)
+open_test false x o h = (refl, h)
+
+unmapped : {A B : Type 0} (f : A → B) (o : Option A) → is_some (option_map f o) ≡ false → is_some o ≡ false
+unmapped f None h = refl
+unmapped f (Some x) h = h
+
 module _ (settings : Settings) (octets : List ℕ) where
   -- what isn't refused, as it reads, is such a packet
-  from_reading : (o : Option Packet) → read octets ≡ o → length octets ≤ 9216 → 14 ≤ length octets → slice_index octets 0 ≡ 128 → list_any (λ b. b) (reading_forms settings o) ≡ false → IsTakenPacket settings octets
-  from_reading None is short long plain h = absurd (true≢false h)
-  from_reading (Some p) is short long plain h =
-      let type = or_parts (not (p.pt == settings.media_type)) _ h in
-      let source = or_parts (not (p.ssrc == settings.media_ssrc)) _ type.1 in
-      let extension = or_parts (bit 128 (slice_index p.payload 0)) false source.1 in
+  from_reading : (r : Result Packet RtpFault) → reading octets ≡ r → length octets ≤ 9216 → is_some (reading_reason settings r) ≡ false → IsTakenPacket settings octets
+  from_reading (Err fault) is short h = absurd (true≢false h)
+  from_reading (Ok p) is short h =
+      let source = open_test (not (p.ssrc == settings.media_ssrc)) OtherSsrc _ h in
+      let type = open_test (not (p.pt == settings.media_type)) OtherType _ source.1 in
+      let form = open_test (is_form p) Form None type.1 in
+      let padding = or_parts (not (p.padding == 0)) _ form.0 in
+      let long = or_parts (nat_lt (length p.payload) 2) _ padding.1 in
       record {
         packet = p;
-        reads = is;
+        reads = ap result_ok is;
         type = eqb-true _ _ (not_refused _ type.0);
         source = eqb-true _ _ (not_refused _ source.0);
-        payload = record { long = (let len = length-payload octets p plain is in omega arith); no_extension = extension.0 };
+        payload = record { long = ltb-false (length p.payload) 2 long.0; no_extension = long.1 };
         size = short;
       }
 
   -- what isn't refused is such a packet
-  pub taken_packet : is_form settings octets ≡ false → IsTakenPacket settings octets
+  pub taken_packet : is_aside settings octets ≡ false → IsTakenPacket settings octets
   taken_packet h =
-      let size = or_parts (nat_lt 9216 (length octets)) _ h in
-      let long = or_parts (nat_lt (length octets) 14) _ size.1 in
-      let plain = or_parts (not (slice_index octets 0 == 128)) _ long.1 in
-      from_reading (read octets) refl (ltb-false 9216 (length octets) size.0) (ltb-false (length octets) 14 long.0) (eqb-true (slice_index octets 0) 128 (not_refused _ plain.0)) plain.1
+      let size = open_test (nat_lt 9216 (length octets)) (Refused TooLong) _ h in
+      let rtp = open_test (is_rtcp octets) (control octets) _ size.1 in
+      from_reading (reading octets) refl (ltb-false 9216 (length octets) size.0) (unmapped Refused (reading_reason settings (reading octets)) rtp.1)
 
 -- what a payload's part is: a start where it begins a frame, and then key where the frame's first octet says so; it has
 -- no layers, and its body is what stands behind the first octet

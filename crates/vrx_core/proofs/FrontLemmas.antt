@@ -14,7 +14,7 @@ use Rattle.vrx_core.specs.Machine.{Snapshot, latest, last_pulled, next_frame, af
 use Rattle.vrx_core.specs.declared.settings.Settings.{Settings}
 use Rattle.vrx_core.specs.declared.event.Event.{Event}
 use Rattle.vrx_core.specs.declared.event.Event.TheVariants.{Datagram, Pull}
-use Rattle.vrx_core.specs.declared.reply.Reason.{Reason}
+use Rattle.vrx_core.specs.declared.form.NotTaken.{NotTaken}
 use Rattle.vrx_core.specs.declared.reply.Frame.{Frame}
 use Rattle.vrx_core.proofs.MemberLemmas.{Contains-either}
 use Rattle.vrx_core.proofs.PulledLemmas.{given-rises, beyond-every}
@@ -71,7 +71,7 @@ front_moves (Some old) last packets all upto = ap (λ n. Some (reached n packets
 
 module _ (settings : Settings) (codec : Meaning) where
   -- a datagram leaves it so
-  datagram-plain : (s : Snapshot) (moment : ℕ) (octets : List ℕ) (v : Result (ℕ × Content) Reason) → verdict settings s.newest s.packets octets ≡ v → IsPlain s → IsPlain (after_datagram s moment v)
+  datagram-plain : (s : Snapshot) (moment : ℕ) (octets : List ℕ) (v : Result (ℕ × Content) NotTaken) → verdict settings s.newest s.packets octets ≡ v → IsPlain s → IsPlain (after_datagram s moment v)
   datagram-plain s moment octets (Err reason) is plain = record { media = plain.media; front = plain.front }
   datagram-plain s moment octets (Ok (n, content)) is plain =
       let newest : ℕ = newest_with s.newest n in

@@ -6,7 +6,7 @@ use Rattle.vrx_num.specs.Extended.{extended}
 use Rattle.vrx_codec.specs.Meaning.{Meaning}
 use Rattle.vrx_core.specs.Window.{Content}
 use Rattle.vrx_core.specs.Window as window
-use Rattle.vrx_core.specs.Form.{is_form}
+use Rattle.vrx_core.specs.Form.{is_aside}
 use Rattle.vrx_core.specs.Verdict.{number_of, verdict}
 use Rattle.vrx_core.specs.Run.{Run}
 use Rattle.vrx_core.specs.Deliverable.{stands}
@@ -18,14 +18,13 @@ use Rattle.vrx_core.specs.HonestNetwork.{IsNear}
 use Rattle.vrx_core.specs.Chain.{InChain}
 use Rattle.vrx_core.specs.Ready.{IsNumber, HasNumbers}
 use Rattle.vrx_core.specs.declared.settings.Settings.{Settings}
-use Rattle.vrx_core.specs.declared.reply.Reason.{Reason}
-use Rattle.vrx_core.specs.declared.reply.Reason.TheVariants.{Form}
+use Rattle.vrx_core.specs.declared.form.NotTaken.{NotTaken}
 use Rattle.vrx_core.specs.declared.reply.Frame.{Frame}
 use Rattle.vrx_core.proofs.NumberLemmas.{IsNewestOf, IsNumber-grown, IsNumber-below, taken-number, taken-newest}
 use Rattle.vrx_core.proofs.KeptLemmas.{IsKept, AreKept, placed-kept, grown-kept}
 use Rattle.vrx_core.proofs.MemberLemmas.{Contains-either, Contains-empty, Contains-tail}
 use Rattle.vrx_core.proofs.PartLemmas.{frame_travels, frame_upto, one_span, size}
-use Rattle.vrx_core.proofs.TakenLemmas.{Brings, verdict_taken, verdict_form, number_of-text}
+use Rattle.vrx_core.proofs.TakenLemmas.{Brings, verdict_taken, verdict_aside, number_of-text}
 
 -- a number beyond the last one pulled, as the test says it
 pub stands_from : (o : Option ℕ) (run : Run) → IfSome o (λ last. last < run.first) → stands o run ≡ true
@@ -116,19 +115,19 @@ module _ (settings : Settings) (codec : Meaning) (sender : Sender) (honest : Hon
 
   module _ (s : Snapshot) (js fs : List ℕ) (h : Holds s js fs) (moment : ℕ) where
     -- a refused datagram changes nothing of it
-    refused-holds : (reason : Reason) → Holds (after_datagram s moment (Err reason)) js fs
-    refused-holds reason = record { newest = h.newest; kept = h.kept; pulled = h.pulled; closed = h.closed }
+    refused-holds : (left : NotTaken) → Holds (after_datagram s moment (Err left)) js fs
+    refused-holds left = record { newest = h.newest; kept = h.kept; pulled = h.pulled; closed = h.closed }
 
     -- octets of another form are refused
-    pub form-holds : (octets : List ℕ) → is_form settings octets ≡ true → Holds (after_datagram s moment (verdict settings s.newest s.packets octets)) js fs
-    form-holds octets form = subst (λ (r : Result (ℕ × Content) Reason). Holds (after_datagram s moment r) js fs) (sym (verdict_form settings s.newest s.packets octets form)) (refused-holds Form)
+    pub form-holds : (octets : List ℕ) → is_aside settings octets ≡ true → Holds (after_datagram s moment (verdict settings s.newest s.packets octets)) js fs
+    form-holds octets form = subst (λ (r : Result (ℕ × Content) NotTaken). Holds (after_datagram s moment r) js fs) (sym (verdict_aside settings s.newest s.packets octets form).1) (refused-holds (verdict_aside settings s.newest s.packets octets form).0)
 
     -- the extended number of a sender's packet that is taken
     taken-extended : (i n : ℕ) (octets : List ℕ) → Brings settings sender i octets → number_of s.newest octets ≡ Some n → extended s.newest (wire_of sender i) ≡ Some n
     taken-extended i n octets b is = sym (number_of-text s.newest octets b.packet (wire_of sender i) b.reads b.number) ∙ is
 
     -- a sender's datagram that is near those taken, whatever the verdict
-    brought-holds : (i : ℕ) (octets : List ℕ) → Brings settings sender i octets → IsNear i js → (r : Result (ℕ × Content) Reason) → verdict settings s.newest s.packets octets ≡ r → Holds (after_datagram s moment r) (if is_ok r then i ∷ js else js) fs
+    brought-holds : (i : ℕ) (octets : List ℕ) → Brings settings sender i octets → IsNear i js → (r : Result (ℕ × Content) NotTaken) → verdict settings s.newest s.packets octets ≡ r → Holds (after_datagram s moment r) (if is_ok r then i ∷ js else js) fs
     brought-holds i octets b near (Err reason) is = refused-holds reason
     brought-holds i octets b near (Ok (n, content)) is =
         let took : (number_of s.newest octets ≡ Some n) × (content ≡ window.Media octets) = verdict_taken settings s.newest s.packets octets n content is in

@@ -14,7 +14,7 @@ use Rattle.vrx_core.specs.declared.event.Event.TheVariants.{Datagram, Pull}
 use Rattle.vrx_core.proofs.MemberLemmas.{Contains-either, Contains-empty}
 
 abbrev settings : Settings
-settings = record { media_ssrc = 10; media_type = 96; from_ssrc = 11 }
+settings = record { media_ssrc = 10; media_type = 96; red = None; rtx = None; from_ssrc = 11; interval = 100 }
 
 -- a keyframe of two packets, of the sequence numbers 65535 and 0, and a frame of one packet that refers to it
 abbrev first_text : List ℕ
@@ -61,7 +61,7 @@ third_part = record {
 first_is : IsPart settings vp8 sender 0 first_frame 2 0 0 first_part
 first_is = record {
   sent = refl;
-  media = record { size = omega arith; reads = refl; no_padding = refl; number = refl; type = refl; source = refl; payload = λ e. cc; part_reads = refl; form = refl };
+  media = record { size = omega arith; reads = refl; no_padding = refl; number = refl; type = refl; source = refl; payload = λ e. cc; part_reads = refl; no_rtcp = λ r. absurd (omega (arith, r.at_most)); long = omega arith; no_extension = refl };
   timestamp = refl;
   marker = (λ e. cc, λ e. absurd (omega arith));
   start = refl;
@@ -71,7 +71,7 @@ first_is = record {
 second_is : IsPart settings vp8 sender 0 first_frame 2 1 1 second_part
 second_is = record {
   sent = refl;
-  media = record { size = omega arith; reads = refl; no_padding = refl; number = refl; type = refl; source = refl; payload = λ e. cc; part_reads = refl; form = refl };
+  media = record { size = omega arith; reads = refl; no_padding = refl; number = refl; type = refl; source = refl; payload = λ e. cc; part_reads = refl; no_rtcp = λ r. absurd (omega (arith, r.at_most)); long = omega arith; no_extension = refl };
   timestamp = refl;
   marker = (λ e. refl, λ e. refl);
   start = refl;
@@ -81,7 +81,7 @@ second_is = record {
 third_is : IsPart settings vp8 sender 1 second_frame 1 0 2 third_part
 third_is = record {
   sent = refl;
-  media = record { size = omega arith; reads = refl; no_padding = refl; number = refl; type = refl; source = refl; payload = λ e. cc; part_reads = refl; form = refl };
+  media = record { size = omega arith; reads = refl; no_padding = refl; number = refl; type = refl; source = refl; payload = λ e. cc; part_reads = refl; no_rtcp = λ r. absurd (omega (arith, r.at_most)); long = omega arith; no_extension = refl };
   timestamp = refl;
   marker = (λ e. refl, λ e. refl);
   start = refl;

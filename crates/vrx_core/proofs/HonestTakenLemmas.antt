@@ -7,7 +7,7 @@ use Rattle.vrx_num.proofs.ExtendedLemmas.{extended-extends, extended-some}
 use Rattle.vrx_codec.specs.Meaning.{Meaning}
 use Rattle.vrx_core.specs.Window.{Content, Packets, at, is_available, newest_with}
 use Rattle.vrx_core.specs.Verdict.{is_too_old, number_of, verdict}
-use Rattle.vrx_core.specs.Machine.{Reply, ToDatagram, Snapshot, latest, after_datagram, after_pull, next_frame, what_of, snapshots, reply}
+use Rattle.vrx_core.specs.Machine.{handled_as, Reply, ToDatagram, Snapshot, latest, after_datagram, after_pull, next_frame, what_of, snapshots, reply}
 use Rattle.vrx_core.specs.Sender.{SentPacket, Sender, wire_of}
 use Rattle.vrx_core.specs.WireForm.{content_of}
 use Rattle.vrx_core.specs.HonestSender.{HonestSender}
@@ -17,13 +17,13 @@ use Rattle.vrx_core.specs.Ready.{IsNumber}
 use Rattle.vrx_core.specs.declared.settings.Settings.{Settings}
 use Rattle.vrx_core.specs.declared.event.Event.{Event}
 use Rattle.vrx_core.specs.declared.event.Event.TheVariants.{Datagram, Pull}
-use Rattle.vrx_core.specs.declared.reply.Reason.{Reason}
+use Rattle.vrx_core.specs.declared.form.NotTaken.{NotTaken}
 use Rattle.vrx_core.specs.declared.reply.What.{What}
 use Rattle.vrx_core.specs.declared.reply.What.TheVariants.{Media}
 use Rattle.vrx_core.specs.declared.reply.Frame.{Frame}
 use Rattle.vrx_core.proofs.NumberLemmas.{IsNewestOf, taken-number, taken-newest, wire_below, is_number-extends}
 use Rattle.vrx_core.proofs.KeptLemmas.{AreKept, kept-there}
-use Rattle.vrx_core.proofs.TakenLemmas.{Brings, brings, number_of-text, verdict_taken, verdict_open, verdict_take, verdict_form}
+use Rattle.vrx_core.proofs.TakenLemmas.{Brings, brings, number_of-text, verdict_taken, verdict_open, verdict_take, verdict_aside}
 use Rattle.vrx_core.proofs.MemberLemmas.{Contains-empty}
 use Rattle.vrx_core.proofs.KeepsLemmas.{Keeps, greatest-upto, near-number, number-near, one-place, open-newest, placed-keeps}
 use Rattle.vrx_core.proofs.HoldsLemmas.{Holds}
@@ -34,7 +34,7 @@ nothing : (sender : Sender) (packets : Packets) (n : ℕ) → Keeps sender [] pa
 nothing sender packets n keeps = false_from_ne_true (is_available n packets) (λ h. Contains-empty (keeps.from n h).0 (keeps.from n h).1)
 
 -- an Ok has a value
-ok_value : (r : Result (ℕ × Content) Reason) → is_ok r ≡ true → (x : ℕ × Content) × (r ≡ Ok x)
+ok_value : (r : Result (ℕ × Content) NotTaken) → is_ok r ≡ true → (x : ℕ × Content) × (r ≡ Ok x)
 ok_value (Ok x) h = (x, refl)
 ok_value (Err reason) h = absurd (cc)
 
@@ -48,7 +48,7 @@ module _ (settings : Settings) (sender : Sender) (s : Snapshot) (i : ℕ) (octet
   brought-number = number_of-text s.newest octets b.packet (wire_of sender i) b.reads b.number
 
   -- what is kept after a sender's datagram that is near those taken, whatever the verdict
-  brought-keeps : (js : List ℕ) (moment : ℕ) → IsNewestOf sender js s.newest → Keeps sender js s.packets → IsNear i js → (r : Result (ℕ × Content) Reason) → verdict settings s.newest s.packets octets ≡ r → Keeps sender (if is_ok r then i ∷ js else js) (after_datagram s moment r).packets
+  brought-keeps : (js : List ℕ) (moment : ℕ) → IsNewestOf sender js s.newest → Keeps sender js s.packets → IsNear i js → (r : Result (ℕ × Content) NotTaken) → verdict settings s.newest s.packets octets ≡ r → Keeps sender (if is_ok r then i ∷ js else js) (after_datagram s moment r).packets
   brought-keeps js moment newest keeps near (Err reason) is = keeps
   brought-keeps js moment newest keeps near (Ok (n, content)) is =
       let given : extended s.newest (wire_of sender i) ≡ Some n = sym brought-number ∙ (verdict_taken settings s.newest s.packets octets n content is).0 in
@@ -160,7 +160,7 @@ module _ (settings : Settings) (codec : Meaning) (sender : Sender) (h : List Eve
         brought-keeps settings sender s i octets (brings settings codec sender honest i octets delivery.0) (taken settings codec h origins) moment newest keeps delivery.1 (verdict settings s.newest s.packets octets) refl
     keeps_step (Datagram moment octets) Elsewhere delivery =
         let s : Snapshot = latest (snapshots settings codec h) in
-        subst (λ (r : Result (ℕ × Content) Reason). Keeps sender (taken settings codec h origins) (after_datagram s moment r).packets) (sym (verdict_form settings s.newest s.packets octets delivery)) keeps
+        subst (λ (r : Result (ℕ × Content) NotTaken). Keeps sender (taken settings codec h origins) (after_datagram s moment r).packets) (sym (verdict_aside settings s.newest s.packets octets delivery).1) keeps
     keeps_step (Pull moment) (FromSender i) delivery = absurd delivery
     keeps_step (Pull moment) Elsewhere delivery = subst (λ (packets : Packets). Keeps sender (taken settings codec h origins) packets) (sym (pull_packets (latest (snapshots settings codec h)) moment (next_frame codec (snapshots settings codec h)))) keeps
 
@@ -175,7 +175,7 @@ module _ (settings : Settings) (codec : Meaning) (sender : Sender) (h : List Eve
           answer = λ h'. let p = brought-answer settings sender s i octets b js newest delivery.1 h' in (p.0, p.1, ap to p.2);
         } where
           to : What → Reply
-          to w = ToDatagram (record { what = w })
+          to w = ToDatagram (handled_as w)
 
     -- an event takes what is to be taken
     rightly_step : (e : Event) (o : Origin) → IsDelivery settings codec sender h origins e o → IsTakenRightly settings codec sender h origins e o

@@ -1,5 +1,5 @@
 -- The packets that are available are those taken that the window still holds.
-use Rattle.std.proofs.Common.{◌≡◌, ℕ, zero, suc, ◌+◌, ◌<◌, ◌≤◌, ◌⊎◌, Bool, true, false, cond, List, [], ◌∷◌, length, slice_index_or, Contains, Option, Some, None, is_some, refl, sym, ◌∙◌, ap, subst, arith, inl, inr, nat_cmp, nat_lt, nat_le}
+use Rattle.std.proofs.Common.{◌≡◌, ℕ, ◌+◌, ◌<◌, ◌≤◌, ◌⊎◌, Bool, true, false, cond, List, [], ◌∷◌, Contains, Option, Some, None, is_some, refl, sym, ◌∙◌, ap, subst, arith, inl, inr, nat_cmp, nat_lt, nat_le}
 use Rattle.std.specs.Ordering.{eq_by_cmp}
 use Rattle.std.specs.FinMap.Entries.{find, find-put, find-where_key, where_key}
 use Rattle.std.proofs.lemmas.Cmp.{nat_cmp_total}

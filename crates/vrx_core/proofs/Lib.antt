@@ -1,6 +1,9 @@
 pub mod AnswerLemmas
 pub mod AvailableLemmas
 pub mod EntryLemmas
+pub mod SettingsLemmas
+pub mod ControlLemmas
+pub mod AsideLemmas
 pub mod FormLemmas
 pub mod FrameLemmas
 pub mod FrontLemmas

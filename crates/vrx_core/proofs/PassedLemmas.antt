@@ -13,7 +13,7 @@ use Rattle.vrx_core.specs.Passed.{PassedStaysHolds, NonePassedHolds}
 use Rattle.vrx_core.specs.declared.settings.Settings.{Settings}
 use Rattle.vrx_core.specs.declared.event.Event.{Event}
 use Rattle.vrx_core.specs.declared.event.Event.TheVariants.{Datagram, Pull}
-use Rattle.vrx_core.specs.declared.reply.Reason.{Reason}
+use Rattle.vrx_core.specs.declared.form.NotTaken.{NotTaken}
 use Rattle.vrx_core.specs.declared.reply.Frame.{Frame}
 
 -- the lesser bound of two numbers
@@ -42,7 +42,7 @@ abbrev HasNone : Snapshot → Type 0
 HasNone s = last_pulled s.pulled ≡ None → s.front ≡ None
 
 -- so it stays with a datagram
-datagram_none : (s : Snapshot) (moment : ℕ) (v : Result (ℕ × Content) Reason) → HasNone s → HasNone (after_datagram s moment v)
+datagram_none : (s : Snapshot) (moment : ℕ) (v : Result (ℕ × Content) NotTaken) → HasNone s → HasNone (after_datagram s moment v)
 datagram_none s moment (Err reason) none is = none is
 datagram_none s moment (Ok (n, content)) none is = ap (λ (o : Option ℕ). front_after s.front o (placed (newest_with s.newest n) n content s.packets)) is
 
@@ -63,7 +63,7 @@ has_none settings codec (Pull moment ∷ h) is =
     pull_none (latest past) moment (next_frame codec past) (has_none settings codec h) is
 
 -- what is passed stays passed with a datagram
-datagram_passed : (s : Snapshot) (moment : ℕ) (v : Result (ℕ × Content) Reason) (n : ℕ) → HasNone s → is_passed s.front n ≡ true → is_passed (after_datagram s moment v).front n ≡ true
+datagram_passed : (s : Snapshot) (moment : ℕ) (v : Result (ℕ × Content) NotTaken) (n : ℕ) → HasNone s → is_passed s.front n ≡ true → is_passed (after_datagram s moment v).front n ≡ true
 datagram_passed s moment (Err reason) n none passed = passed
 datagram_passed s moment (Ok (m, content)) n none passed = front-stays s.front (last_pulled s.pulled) (placed (newest_with s.newest m) m content s.packets) n none passed
 

@@ -15,7 +15,7 @@ use Rattle.vrx_core.specs.PulledRise.{Rise, PulledRiseHolds}
 use Rattle.vrx_core.specs.declared.settings.Settings.{Settings}
 use Rattle.vrx_core.specs.declared.event.Event.{Event}
 use Rattle.vrx_core.specs.declared.event.Event.TheVariants.{Datagram, Pull}
-use Rattle.vrx_core.specs.declared.reply.Reason.{Reason}
+use Rattle.vrx_core.specs.declared.form.NotTaken.{NotTaken}
 use Rattle.vrx_core.specs.declared.reply.Frame.{Frame}
 use Rattle.vrx_core.specs.IsRun.{IsRun}
 use Rattle.vrx_core.proofs.RunLemmas.{option_map-some, runs-from}
@@ -55,7 +55,7 @@ given-rises codec past frame is =
     subst (λ (f : Frame). (f.first ≤ f.last) × IfSome (last_pulled s.pulled) (λ last. last < f.first)) a.2 (c.not_empty, stands-beyond (last_pulled s.pulled) a.0 b.1)
 
 -- a datagram leaves the frames pulled
-datagram_pulled : (s : Snapshot) (moment : ℕ) (v : Result (ℕ × Content) Reason) → (after_datagram s moment v).pulled ≡ s.pulled
+datagram_pulled : (s : Snapshot) (moment : ℕ) (v : Result (ℕ × Content) NotTaken) → (after_datagram s moment v).pulled ≡ s.pulled
 datagram_pulled s moment (Ok (n, content)) = refl
 datagram_pulled s moment (Err reason) = refl
 

@@ -1,65 +1,80 @@
 -- When a datagram is taken, and when each reason refuses it.
-use Rattle.std.proofs.Common.{◌≡◌, ℕ, ◌+◌, ◌<◌, ◌≤◌, Bool, true, false, List, Option, Some, None, IfSome, IsSomeAnd, Result, Ok, Err, ok_or, option_and_then, refl, sym, ◌∙◌, ap, subst}
-use Rattle.std.proofs.lemmas.Bool.{both_ways, leb-true, le-leb, false_from_ne_true}
+use Rattle.std.proofs.Common.{◌≡◌, ℕ, ◌+◌, ◌<◌, ◌≤◌, Bool, true, false, List, All, Option, Some, None, is_some, IfSome, IsSomeAnd, Result, Ok, Err, ok_or, option_and_then, refl, sym, ◌∙◌, ap, subst}
+use Rattle.std.proofs.lemmas.Bool.{both_ways, leb-true, le-leb, false_from_ne_true, true≢false}
 use Rattle.vrx_num.specs.Extended.{IsHalfAway, extended}
 use Rattle.vrx_num.proofs.ExtendedLemmas.{extended-none, extended-half_away}
 use Rattle.vrx_rtp.specs.Packet.{Packet}
 use Rattle.vrx_rtp.specs.Reading.{read}
-use Rattle.vrx_core.specs.Form.{is_form}
+use Rattle.vrx_core.specs.Form.{aside, is_aside}
 use Rattle.vrx_core.specs.Window.{Content, Media, Packets, is_available}
-use Rattle.vrx_core.specs.Verdict.{refused, number_of, is_too_old, ◌>>=◌, ◌>>◌}
-use Rattle.vrx_core.specs.Reasons.{IsBelow, Means, ReasonsHolds}
+use Rattle.vrx_core.specs.Verdict.{refused, number_of, is_too_old, verdict, ◌>>=◌, ◌>>◌}
+use Rattle.vrx_core.specs.Reasons.{IsBelow, MeansAside, Means, ReasonsHolds}
 use Rattle.vrx_core.specs.declared.settings.Settings.{Settings}
-use Rattle.vrx_core.specs.declared.reply.Reason.{Reason}
-use Rattle.vrx_core.specs.declared.reply.Reason.TheVariants.{Form, TooFar, TooOld, Repeat}
+use Rattle.vrx_core.specs.declared.form.NotTaken.{NotTaken}
+use Rattle.vrx_core.specs.declared.reply.Reason.TheVariants.{TooLong, BadRtcp, NotRtp, BadHeader, OtherSsrc, OtherType, NoApt, RtxEmpty, MoreBlocks, BadRed, BadFec, BadPart, Form, TooFar, TooOld, Dead, Repeat}
+use Rattle.vrx_core.specs.declared.form.NotTaken.TheVariants.{Control, Refused}
+use Rattle.vrx_core.proofs.AsideLemmas.{aside-to, aside-from}
 use Rattle.vrx_core.proofs.FormLemmas.{IsTakenPacket, taken_packet}
 
 -- the table, over any answers to its questions
-abbrev table : List ℕ → Bool → Option ℕ → (ℕ → Bool) → (ℕ → Bool) → Result (ℕ × Content) Reason
-table octets form number old again = do
-  refused Form form
-  n ← ok_or number TooFar
+abbrev table : List ℕ → Option NotTaken → Option ℕ → (ℕ → Bool) → (ℕ → Bool) → Result (ℕ × Content) NotTaken
+table octets left number old again = do
+  left
+  n ← ok_or number (Refused TooFar)
   refused TooOld (old n)
   refused Repeat (again n)
   Ok (n, Media octets)
 
 -- the table's last two rows
-abbrev last_two : List ℕ → ℕ → Bool → Bool → Result (ℕ × Content) Reason
+abbrev last_two : List ℕ → ℕ → Bool → Bool → Result (ℕ × Content) NotTaken
 last_two octets n old again = refused TooOld old >> (refused Repeat again >> Ok (n, Media octets))
 
--- what each verdict says of the answers
-abbrev Says : List ℕ → Bool → Option ℕ → (ℕ → Bool) → (ℕ → Bool) → Result (ℕ × Content) Reason → Type 0
-Says octets form number old again (Err Form) = form ≡ true
-Says octets form number old again (Err TooFar) = (form ≡ false) × (number ≡ None)
-Says octets form number old again (Err TooOld) = (form ≡ false) × (n : ℕ) × (number ≡ Some n) × (old n ≡ true)
-Says octets form number old again (Err Repeat) = (form ≡ false) × (n : ℕ) × (number ≡ Some n) × (old n ≡ false) × (again n ≡ true)
-Says octets form number old again (Ok (n, content)) = (form ≡ false) × (number ≡ Some n) × (old n ≡ false) × (again n ≡ false) × (content ≡ Media octets)
+-- what each verdict says of the answers, where the octets get none by themselves
+abbrev Says : List ℕ → Option ℕ → (ℕ → Bool) → (ℕ → Bool) → Result (ℕ × Content) NotTaken → Type 0
+Says octets number old again (Err (Refused TooFar)) = number ≡ None
+Says octets number old again (Err (Refused TooOld)) = (n : ℕ) × (number ≡ Some n) × (old n ≡ true)
+Says octets number old again (Err (Refused Repeat)) = (n : ℕ) × (number ≡ Some n) × (old n ≡ false) × (again n ≡ true)
+Says octets number old again (Err _) = ⊥
+Says octets number old again (Ok (n, content)) = (number ≡ Some n) × (old n ≡ false) × (again n ≡ false) × (content ≡ Media octets)
 
 -- the table's verdict says what is so, with a number
-says_last : (octets : List ℕ) (n : ℕ) (old again : ℕ → Bool) (too_old repeat : Bool) → old n ≡ too_old → again n ≡ repeat → Says octets false (Some n) old again (last_two octets n too_old repeat)
-says_last octets n old again true repeat is_old is_again = (refl, n, refl, is_old)
-says_last octets n old again false true is_old is_again = (refl, n, refl, is_old, is_again)
-says_last octets n old again false false is_old is_again = (refl, refl, is_old, is_again, refl)
+says_last : (octets : List ℕ) (n : ℕ) (old again : ℕ → Bool) (too_old repeat : Bool) → old n ≡ too_old → again n ≡ repeat → Says octets (Some n) old again (last_two octets n too_old repeat)
+says_last octets n old again true repeat is_old is_again = (n, refl, is_old)
+says_last octets n old again false true is_old is_again = (n, refl, is_old, is_again)
+says_last octets n old again false false is_old is_again = (refl, is_old, is_again, refl)
 
 -- the table's verdict says what is so
-says : (octets : List ℕ) (form : Bool) (number : Option ℕ) (old again : ℕ → Bool) → Says octets form number old again (table octets form number old again)
-says octets true number old again = refl
-says octets false None old again = (refl, refl)
-says octets false (Some n) old again = says_last octets n old again (old n) (again n) refl refl
+says : (octets : List ℕ) (number : Option ℕ) (old again : ℕ → Bool) → Says octets number old again (table octets None number old again)
+says octets None old again = refl
+says octets (Some n) old again = says_last octets n old again (old n) (again n) refl refl
 
--- the table, where its first two rows refuse nothing
-table_last : (octets : List ℕ) (form : Bool) (number : Option ℕ) (old again : ℕ → Bool) (n : ℕ) → form ≡ false → number ≡ Some n → table octets form number old again ≡ last_two octets n (old n) (again n)
-table_last octets form number old again n taken is = ap (λ b. table octets b number old again) taken ∙ ap (λ o. table octets false o old again) is
+-- the table, where there is a number
+table_last : (octets : List ℕ) (number : Option ℕ) (old again : ℕ → Bool) (n : ℕ) → number ≡ Some n → table octets None number old again ≡ last_two octets n (old n) (again n)
+table_last octets number old again n is = ap (λ o. table octets None o old again) is
 
 -- where it says what is so, a verdict is the table's
-is_said : (octets : List ℕ) (form : Bool) (number : Option ℕ) (old again : ℕ → Bool) (r : Result (ℕ × Content) Reason) → Says octets form number old again r → table octets form number old again ≡ r
-is_said octets form number old again (Err Form) s = ap (λ b. table octets b number old again) s
-is_said octets form number old again (Err TooFar) s = ap (λ b. table octets b number old again) s.0 ∙ ap (λ o. table octets false o old again) s.1
-is_said octets form number old again (Err TooOld) s = table_last octets form number old again s.1 s.0 s.2 ∙ ap (λ b. last_two octets s.1 b (again s.1)) s.3
-is_said octets form number old again (Err Repeat) s = table_last octets form number old again s.1 s.0 s.2 ∙ ap (λ b. last_two octets s.1 b (again s.1)) s.3 ∙ ap (λ b. last_two octets s.1 false b) s.4
-is_said octets form number old again (Ok (n, content)) s =
-    table_last octets form number old again n s.0 s.1 ∙ ap (λ b. last_two octets n b (again n)) s.2 ∙ ap (λ b. last_two octets n false b) s.3 ∙ ap ok_with (sym s.4) where
-      ok_with : Content → Result (ℕ × Content) Reason
+is_said : (octets : List ℕ) (number : Option ℕ) (old again : ℕ → Bool) (r : Result (ℕ × Content) NotTaken) → Says octets number old again r → table octets None number old again ≡ r
+is_said octets number old again (Err (Refused TooFar)) s = ap (λ o. table octets None o old again) s
+is_said octets number old again (Err (Refused TooOld)) s = table_last octets number old again s.0 s.1 ∙ ap (λ b. last_two octets s.0 b (again s.0)) s.2
+is_said octets number old again (Err (Refused Repeat)) s = table_last octets number old again s.0 s.1 ∙ ap (λ b. last_two octets s.0 b (again s.0)) s.2 ∙ ap (λ b. last_two octets s.0 false b) s.3
+is_said octets number old again (Err (Refused TooLong)) s = absurd s
+is_said octets number old again (Err (Refused BadRtcp)) s = absurd s
+is_said octets number old again (Err Control) s = absurd s
+is_said octets number old again (Err (Refused NotRtp)) s = absurd s
+is_said octets number old again (Err (Refused BadHeader)) s = absurd s
+is_said octets number old again (Err (Refused OtherSsrc)) s = absurd s
+is_said octets number old again (Err (Refused OtherType)) s = absurd s
+is_said octets number old again (Err (Refused Form)) s = absurd s
+is_said octets number old again (Err (Refused NoApt)) s = absurd s
+is_said octets number old again (Err (Refused RtxEmpty)) s = absurd s
+is_said octets number old again (Err (Refused MoreBlocks)) s = absurd s
+is_said octets number old again (Err (Refused BadRed)) s = absurd s
+is_said octets number old again (Err (Refused BadFec)) s = absurd s
+is_said octets number old again (Err (Refused (BadPart code))) s = absurd s
+is_said octets number old again (Err (Refused Dead)) s = absurd s
+is_said octets number old again (Ok (n, content)) s =
+    table_last octets number old again n s.0 ∙ ap (λ b. last_two octets n b (again n)) s.1 ∙ ap (λ b. last_two octets n false b) s.2 ∙ ap ok_with (sym s.3) where
+      ok_with : Content → Result (ℕ × Content) NotTaken
       ok_with c = Ok (n, c)
 
 -- a number below the window, as the test says it
@@ -100,30 +115,100 @@ read_away-from : (newest : Option ℕ) (o : Option Packet) → IfSome newest (λ
 read_away-from newest None from below away = absurd away
 read_away-from newest (Some p) from below away = half_away-from newest p.seq from below away
 
-module _ (settings : Settings) (newest : Option ℕ) (packets : Packets) (octets : List ℕ) (from : IfSome newest (λ m. 32768 ≤ m)) (below : IfSome (read octets) (λ packet. packet.seq < 65536)) where
-  -- what a verdict says of the answers
-  abbrev SaysHere : Result (ℕ × Content) Reason → Type 0
-  SaysHere r = Says octets (is_form settings octets) (number_of newest octets) (is_too_old newest) (λ n. is_available n packets) r
+-- what isn't there
+absent : (o : Option NotTaken) → is_some o ≡ false → o ≡ None
+absent None h = refl
+absent (Some left) h = absurd (true≢false h)
 
-  -- it is what the verdict means
-  means-from : (r : Result (ℕ × Content) Reason) → SaysHere r → Means settings newest packets octets r
-  means-from (Err Form) s = s
-  means-from (Err TooFar) s = let k : IsTakenPacket settings octets = taken_packet settings octets s.0 in (s.0, read_away-to newest (read octets) k.packet k.reads from below s.1)
-  means-from (Err TooOld) s = (s.1, record { form = s.0; number = s.2 }, below-to newest s.1 s.3)
-  means-from (Err Repeat) s = (s.1, record { form = s.0; number = s.2 }, not_below-to newest s.1 s.3, s.4)
-  means-from (Ok (n, content)) s = (record { form = s.0; number = s.1 }, not_below-to newest n s.2, s.3, s.4)
+module _ (settings : Settings) (newest : Option ℕ) (packets : Packets) (octets : List ℕ) (octet : All (λ octet. octet < 256) octets) (from : IfSome newest (λ m. 32768 ≤ m)) (below : IfSome (read octets) (λ packet. packet.seq < 65536)) where
+  -- what a verdict says of the answers
+  abbrev SaysHere : Result (ℕ × Content) NotTaken → Type 0
+  SaysHere r = Says octets (number_of newest octets) (is_too_old newest) (λ n. is_available n packets) r
+
+  abbrev here : Option NotTaken → Result (ℕ × Content) NotTaken
+  here left = table octets left (number_of newest octets) (is_too_old newest) (λ n. is_available n packets)
+
+  -- where octets get no answer by themselves, it is what the verdict means
+  means-from : is_aside settings octets ≡ false → (r : Result (ℕ × Content) NotTaken) → SaysHere r → Means settings newest packets octets r
+  means-from free (Err (Refused TooFar)) s = let k : IsTakenPacket settings octets = taken_packet settings octets free in (free, read_away-to newest (read octets) k.packet k.reads from below s)
+  means-from free (Err (Refused TooOld)) s = (s.0, record { form = free; number = s.1 }, below-to newest s.0 s.2)
+  means-from free (Err (Refused Repeat)) s = (s.0, record { form = free; number = s.1 }, not_below-to newest s.0 s.2, s.3)
+  means-from free (Err (Refused TooLong)) s = absurd s
+  means-from free (Err (Refused BadRtcp)) s = absurd s
+  means-from free (Err Control) s = absurd s
+  means-from free (Err (Refused NotRtp)) s = absurd s
+  means-from free (Err (Refused BadHeader)) s = absurd s
+  means-from free (Err (Refused OtherSsrc)) s = absurd s
+  means-from free (Err (Refused OtherType)) s = absurd s
+  means-from free (Err (Refused Form)) s = absurd s
+  means-from free (Err (Refused NoApt)) s = absurd s
+  means-from free (Err (Refused RtxEmpty)) s = absurd s
+  means-from free (Err (Refused MoreBlocks)) s = absurd s
+  means-from free (Err (Refused BadRed)) s = absurd s
+  means-from free (Err (Refused BadFec)) s = absurd s
+  means-from free (Err (Refused (BadPart code))) s = absurd s
+  means-from free (Err (Refused Dead)) s = absurd s
+  means-from free (Ok (n, content)) s = (record { form = free; number = s.0 }, not_below-to newest n s.1, s.2, s.3)
+
+  -- an answer that octets get by themselves is what the verdict means
+  means-aside : (left : NotTaken) → MeansAside settings octets left → Means settings newest packets octets (Err left)
+  means-aside (Refused TooFar) m = absurd m
+  means-aside (Refused TooOld) m = absurd m
+  means-aside (Refused Repeat) m = absurd m
+  means-aside (Refused TooLong) m = m
+  means-aside (Refused BadRtcp) m = m
+  means-aside Control m = m
+  means-aside (Refused NotRtp) m = m
+  means-aside (Refused BadHeader) m = m
+  means-aside (Refused OtherSsrc) m = m
+  means-aside (Refused OtherType) m = m
+  means-aside (Refused Form) m = m
+  means-aside (Refused NoApt) m = m
+  means-aside (Refused RtxEmpty) m = m
+  means-aside (Refused MoreBlocks) m = m
+  means-aside (Refused BadRed) m = m
+  means-aside (Refused BadFec) m = m
+  means-aside (Refused (BadPart code)) m = m
+  means-aside (Refused Dead) m = m
+
+  -- the verdict is what it means
+  means_by : (left : Option NotTaken) → aside settings octets ≡ left → Means settings newest packets octets (here left)
+  means_by None is = means-from (ap is_some is) (here None) (says octets (number_of newest octets) (is_too_old newest) (λ n. is_available n packets))
+  means_by (Some left) is = means-aside left (aside-to settings octets octet left is)
+
+  -- where octets get no answer by themselves, what is said is the verdict
+  free-is : is_aside settings octets ≡ false → (r : Result (ℕ × Content) NotTaken) → SaysHere r → verdict settings newest packets octets ≡ r
+  free-is free r s = ap here (absent (aside settings octets) free) ∙ is_said octets (number_of newest octets) (is_too_old newest) (λ n. is_available n packets) r s
+
+  -- where they get one, that is the verdict
+  aside-is : (left : NotTaken) → MeansAside settings octets left → verdict settings newest packets octets ≡ Err left
+  aside-is left m = ap here (aside-from settings octets octet left m)
 
   -- and back
-  means-to : (r : Result (ℕ × Content) Reason) → Means settings newest packets octets r → SaysHere r
-  means-to (Err Form) m = m
-  means-to (Err TooFar) m = (m.0, read_away-from newest (read octets) from below m.1)
-  means-to (Err TooOld) m = (m.1.form, m.0, m.1.number, below-from newest m.0 m.2)
-  means-to (Err Repeat) m = (m.1.form, m.0, m.1.number, not_below-from newest m.0 m.2, m.3)
-  means-to (Ok (n, content)) m = (m.0.form, m.0.number, not_below-from newest n m.1, m.2, m.3)
+  means-to : (r : Result (ℕ × Content) NotTaken) → Means settings newest packets octets r → verdict settings newest packets octets ≡ r
+  means-to (Err (Refused TooFar)) m = free-is m.0 (Err (Refused TooFar)) (read_away-from newest (read octets) from below m.1)
+  means-to (Err (Refused TooOld)) m = free-is m.1.form (Err (Refused TooOld)) (m.0, m.1.number, below-from newest m.0 m.2)
+  means-to (Err (Refused Repeat)) m = free-is m.1.form (Err (Refused Repeat)) (m.0, m.1.number, not_below-from newest m.0 m.2, m.3)
+  means-to (Err (Refused TooLong)) m = aside-is (Refused TooLong) m
+  means-to (Err (Refused BadRtcp)) m = aside-is (Refused BadRtcp) m
+  means-to (Err Control) m = aside-is Control m
+  means-to (Err (Refused NotRtp)) m = aside-is (Refused NotRtp) m
+  means-to (Err (Refused BadHeader)) m = aside-is (Refused BadHeader) m
+  means-to (Err (Refused OtherSsrc)) m = aside-is (Refused OtherSsrc) m
+  means-to (Err (Refused OtherType)) m = aside-is (Refused OtherType) m
+  means-to (Err (Refused Form)) m = aside-is (Refused Form) m
+  means-to (Err (Refused NoApt)) m = aside-is (Refused NoApt) m
+  means-to (Err (Refused RtxEmpty)) m = aside-is (Refused RtxEmpty) m
+  means-to (Err (Refused MoreBlocks)) m = aside-is (Refused MoreBlocks) m
+  means-to (Err (Refused BadRed)) m = aside-is (Refused BadRed) m
+  means-to (Err (Refused BadFec)) m = aside-is (Refused BadFec) m
+  means-to (Err (Refused (BadPart code))) m = aside-is (Refused (BadPart code)) m
+  means-to (Err (Refused Dead)) m = aside-is (Refused Dead) m
+  means-to (Ok (n, content)) m = free-is m.0.form (Ok (n, content)) (m.0.number, not_below-from newest n m.1, m.2, m.3)
 
 -- a verdict comes exactly where its meaning holds
 pub reasons_mean : ReasonsHolds
-reasons_mean settings newest packets octets from below r = (
-  λ is. means-from settings newest packets octets from below r (subst (Says octets (is_form settings octets) (number_of newest octets) (is_too_old newest) (λ n. is_available n packets)) is (says octets (is_form settings octets) (number_of newest octets) (is_too_old newest) (λ n. is_available n packets))),
-  λ m. is_said octets (is_form settings octets) (number_of newest octets) (is_too_old newest) (λ n. is_available n packets) r (means-to settings newest packets octets from below r m),
+reasons_mean settings newest packets octets octet from below result = (
+  λ is. subst (Means settings newest packets octets) is (means_by settings newest packets octets octet from below (aside settings octets) refl),
+  means-to settings newest packets octets octet from below result,
 )

@@ -1,6 +1,6 @@
 -- The machine and the payload descriptor on rows worked by hand.
 use Rattle.std.specs.Prelude.{◌≡◌, ℕ, true, false, List, [], ◌∷◌, refl, Some, None, Ok, Err}
-use Rattle.vrx_core.specs.Machine.{ToDatagram, ToPull, replies, reply, snapshots}
+use Rattle.vrx_core.specs.Machine.{handled_as, ToDatagram, ToPull, replies, reply, snapshots}
 use Rattle.vrx_codec.specs.declared.part.Start.TheVariants.{Yes}
 use Rattle.vrx_vp8.specs.Descriptor.{read_part, vp8}
 use Rattle.vrx_core.specs.declared.settings.Settings.{Settings}
@@ -10,7 +10,7 @@ use Rattle.vrx_core.specs.declared.reply.Reason.TheVariants.{TooFar, TooOld, Rep
 use Rattle.vrx_core.specs.declared.reply.Pulled.TheVariants.{NotReady, Frame}
 
 abbrev settings : Settings
-settings = record { media_ssrc = 10; media_type = 96; from_ssrc = 11 }
+settings = record { media_ssrc = 10; media_type = 96; red = None; rtx = None; from_ssrc = 11; interval = 100 }
 
 -- 80e00001000000000000000a1000aa
 abbrev keyframe : List ℕ
@@ -18,7 +18,7 @@ keyframe = 128 ∷ 224 ∷ 0 ∷ 1 ∷ 0 ∷ 0 ∷ 0 ∷ 0 ∷ 0 ∷ 0 ∷ 0 ∷
 
 -- a keyframe comes out as a frame, once
 pub one_keyframe : replies settings vp8 [] (Datagram 0 keyframe ∷ Datagram 0 keyframe ∷ Pull 1 ∷ Pull 2 ∷ Datagram 0 keyframe ∷ [])
-    ≡ ToDatagram (record { what = Media 65537 }) ∷ ToDatagram (record { what = Dropped Repeat }) ∷ ToPull (Frame (record { first = 65537; last = 65537; ts = 0; key = true; bytes = 0 ∷ 170 ∷ [] })) ∷ ToPull NotReady ∷ ToDatagram (record { what = Dropped Repeat }) ∷ []
+    ≡ ToDatagram (handled_as (Media 65537)) ∷ ToDatagram (handled_as (Dropped Repeat)) ∷ ToPull (Frame (record { first = 65537; last = 65537; ts = 0; key = true; bytes = 0 ∷ 170 ∷ [] })) ∷ ToPull NotReady ∷ ToDatagram (handled_as (Dropped Repeat)) ∷ []
 unfolding replies reply snapshots
 one_keyframe = refl
 
@@ -38,13 +38,13 @@ numbered high low = 128 ∷ 224 ∷ high ∷ low ∷ 0 ∷ 0 ∷ 0 ∷ 0 ∷ 0 �
 
 -- a packet 32,768 ahead of the newest has no number, and one 32,767 ahead has
 pub too_far : replies settings vp8 [] (Datagram 0 (numbered 0 1) ∷ Datagram 0 (numbered 128 1) ∷ Datagram 0 (numbered 128 0) ∷ [])
-    ≡ ToDatagram (record { what = Media 65537 }) ∷ ToDatagram (record { what = Dropped TooFar }) ∷ ToDatagram (record { what = Media 98304 }) ∷ []
+    ≡ ToDatagram (handled_as (Media 65537)) ∷ ToDatagram (handled_as (Dropped TooFar)) ∷ ToDatagram (handled_as (Media 98304)) ∷ []
 unfolding replies reply snapshots
 too_far = refl
 
 -- a packet 2,048 below the newest is too old, and one 2,047 below isn't
 pub too_old : replies settings vp8 [] (Datagram 0 (numbered 8 1) ∷ Datagram 0 (numbered 0 1) ∷ Datagram 0 (numbered 0 2) ∷ [])
-    ≡ ToDatagram (record { what = Media 67585 }) ∷ ToDatagram (record { what = Dropped TooOld }) ∷ ToDatagram (record { what = Media 65538 }) ∷ []
+    ≡ ToDatagram (handled_as (Media 67585)) ∷ ToDatagram (handled_as (Dropped TooOld)) ∷ ToDatagram (handled_as (Media 65538)) ∷ []
 unfolding replies reply snapshots
 too_old = refl
 

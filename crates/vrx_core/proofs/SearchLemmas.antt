@@ -14,7 +14,7 @@ use Rattle.vrx_rtp.specs.Reading.{read}
 use Rattle.vrx_codec.specs.Part.{Part}
 use Rattle.vrx_codec.specs.declared.part.Start.TheVariants.{Yes, No}
 use Rattle.vrx_vp8.specs.Descriptor.{read_part, vp8}
-use Rattle.vrx_core.specs.Form.{is_form}
+use Rattle.vrx_core.specs.Form.{is_aside}
 use Rattle.vrx_core.specs.Window.{Content, Media, Packets, at}
 use Rattle.vrx_core.specs.Run.{Run, Piece, text_of, begins, is_passed, began_behind, is_start, runs, ◌>>=◌}
 use Rattle.vrx_core.specs.IsRun.{IsPiece, ArePieces, IsRun}
@@ -130,7 +130,7 @@ packet-in entry text packet media reads = ap (λ c. option_and_then read (text_o
 taken-says : (settings : Settings) (content : Content) (text : List ℕ) (packet : Packet) (part : Part) → IsTaken settings content → content ≡ Media text → read text ≡ Some packet → read_part packet.payload ≡ Ok part → SaysSo packet.payload part
 taken-says settings content text packet part (other, is, form) media reads part_reads =
     let same : other ≡ text = same_Some other text (ap text_of (sym is ∙ media)) in
-    let k : IsTakenPacket settings text = taken_packet settings text (ap (is_form settings) (sym same) ∙ form) in
+    let k : IsTakenPacket settings text = taken_packet settings text (ap (is_aside settings) (sym same) ∙ form) in
     let packets : k.packet ≡ packet = same_Some k.packet packet (sym k.reads ∙ reads) in
     part_says packet.payload part (subst (λ q. SaysPart q.payload) packets k.payload) part_reads
 

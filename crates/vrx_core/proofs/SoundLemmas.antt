@@ -6,7 +6,7 @@ use Rattle.std.specs.Cmp.{nat_cmp_total}
 use Rattle.std.specs.declared.cmp.Ordering.TheVariants.{Less, Equal, Greater}
 use Rattle.std.specs.FinMap.Entries.{by_order, put, where_key, is_sorted, is_sorted-put, is_sorted-where_key}
 use Rattle.vrx_num.specs.Extended.{greater}
-use Rattle.vrx_core.specs.Form.{is_form}
+use Rattle.vrx_core.specs.Form.{is_aside}
 use Rattle.vrx_core.specs.Window.{Content, Media, Packets, newest_with, placed}
 use Rattle.vrx_core.specs.StandsFor.{Parts}
 use Rattle.vrx_core.specs.Step.{IsTaken, AreTaken, IsSound, parts_of, counted, with_datagram}
@@ -58,7 +58,7 @@ sound-counted parts moment sound few = record { sorted = sound.sorted; taken = s
   later None h = h
   later (Some m) h = (h.0, omega (arith, h.1))
 
-pub sound-taken : (parts : Parts) (moment n : ℕ) (octets : List ℕ) → IsSound parts → parts.events < 1048576 → is_form parts.settings octets ≡ false → Reaches parts.newest parts.events n → IsSound (with_datagram parts moment (Ok (n, Media octets)))
+pub sound-taken : (parts : Parts) (moment n : ℕ) (octets : List ℕ) → IsSound parts → parts.events < 1048576 → is_aside parts.settings octets ≡ false → Reaches parts.newest parts.events n → IsSound (with_datagram parts moment (Ok (n, Media octets)))
 sound-taken parts moment n octets sound few form reach = record {
   sorted = sorted-placed (newest_with parts.newest n) n (Media octets) parts.packets sound.sorted;
   taken = taken-put parts.settings n (Media octets) _ (octets, refl, form) (taken-where parts.settings _ parts.packets sound.taken);
@@ -71,7 +71,7 @@ module _ (settings : Settings) (events clock later : ℕ) (newest last : Option 
   pub sound-refused : IsSound (parts_of settings events clock newest packets last) → events < 1048576 → IsSound (parts_of settings (events + 1) later newest packets last)
   sound-refused sound few = let s : IsSound (counted (parts_of settings events clock newest packets last) later) = sound-counted _ later sound few in record { sorted = s.sorted; taken = s.taken; few = s.few; reach = s.reach }
 
-  pub sound-held : (n m : ℕ) (octets text : List ℕ) (newest' : Option ℕ) (packets' : Packets) → IsSound (parts_of settings events clock newest packets last) → events < 1048576 → is_form settings octets ≡ false
+  pub sound-held : (n m : ℕ) (octets text : List ℕ) (newest' : Option ℕ) (packets' : Packets) → IsSound (parts_of settings events clock newest packets last) → events < 1048576 → is_aside settings octets ≡ false
       → MatchOption newest ((65536 ≤ n) × (n < 131072)) (λ top. (top < n + 32768) × (n < top + 32768)) → newest' ≡ greater newest n → m ≡ newest_with newest n → text ≡ octets → packets' ≡ placed m n (Media text) packets
       → IsSound (parts_of settings (events + 1) later newest' packets' last)
   sound-held n m octets text newest' packets' sound few form near greater_is most_is text_is placed_is =

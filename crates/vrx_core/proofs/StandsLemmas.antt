@@ -11,13 +11,13 @@ use Rattle.vrx_core.specs.Verdict.{verdict}
 use Rattle.vrx_core.specs.Run.{runs}
 use Rattle.vrx_core.specs.Deliverable.{answer}
 use Rattle.vrx_core.specs.History.{now}
-use Rattle.vrx_core.specs.Machine.{Reply, ToDatagram, ToPull, Snapshot, latest, last_pulled, frame_of, next_frame, pulled_of, after_datagram, after_pull, next, what_of, reply_now, grown, snapshots, reply}
+use Rattle.vrx_core.specs.Machine.{handled_as, Reply, ToDatagram, ToPull, Snapshot, latest, last_pulled, frame_of, next_frame, pulled_of, after_datagram, after_pull, next, what_of, reply_now, grown, snapshots, reply}
 use Rattle.vrx_core.specs.StandsFor.{Parts, StandsFor, NoneDeliverable}
 use Rattle.vrx_core.specs.Step.{IsSound, IsHandled, parts_of, counted, with_datagram, with_pull, next_run, next_joined}
 use Rattle.vrx_core.specs.declared.settings.Settings.{Settings}
 use Rattle.vrx_core.specs.declared.event.Event.{Event}
 use Rattle.vrx_core.specs.declared.event.Event.TheVariants.{Datagram, Pull}
-use Rattle.vrx_core.specs.declared.reply.Reason.{Reason}
+use Rattle.vrx_core.specs.declared.form.NotTaken.{NotTaken}
 use Rattle.vrx_core.specs.declared.reply.What.{What}
 use Rattle.vrx_core.specs.declared.reply.Frame.{Frame}
 use Rattle.vrx_core.specs.declared.reply.Pulled.TheVariants.{NotReady}
@@ -34,7 +34,7 @@ unfolding reply
 reply-is settings codec h e = refl
 
 -- a datagram moves the clock
-datagram_now : (s : Snapshot) (moment : ℕ) (v : Result (ℕ × Content) Reason) → (after_datagram s moment v).now ≡ max s.now moment
+datagram_now : (s : Snapshot) (moment : ℕ) (v : Result (ℕ × Content) NotTaken) → (after_datagram s moment v).now ≡ max s.now moment
 datagram_now s moment (Ok (n, content)) = refl
 datagram_now s moment (Err reason) = refl
 
@@ -76,7 +76,7 @@ stands-from parts after h e same shows = record { events = shows.events; clock =
   here : next parts.settings vp8 (snapshots parts.settings vp8 h) e ≡ latest (snapshots after.settings vp8 (e ∷ h))
   here = sym (ap latest (ap (λ s. snapshots s vp8 (e ∷ h)) same ∙ snapshots-cons parts.settings vp8 e h))
 
-shows-datagram : (parts : Parts) (s : Snapshot) (count moment : ℕ) (v : Result (ℕ × Content) Reason) → Shows parts s count → Shows (with_datagram parts moment v) (after_datagram s moment v) (suc count)
+shows-datagram : (parts : Parts) (s : Snapshot) (count moment : ℕ) (v : Result (ℕ × Content) NotTaken) → Shows parts s count → Shows (with_datagram parts moment v) (after_datagram s moment v) (suc count)
 shows-datagram parts s count moment (Err reason) shows = record { events = add-one parts.events ∙ ap suc shows.events; clock = ap (λ c. max c moment) shows.clock; newest = shows.newest; packets = shows.packets; last_pulled = shows.last_pulled }
 shows-datagram parts s count moment (Ok (n, content)) shows = record {
   events = add-one parts.events ∙ ap suc shows.events;
@@ -94,7 +94,7 @@ shows-pull parts s count moment (Some frame) shows = record { events = add-one p
 verdict-shown : (parts : Parts) (s : Snapshot) (count : ℕ) (octets : List ℕ) → Shows parts s count → verdict parts.settings parts.newest parts.packets octets ≡ verdict parts.settings s.newest s.packets octets
 verdict-shown parts s count octets shows = ap (λ o. verdict parts.settings o parts.packets octets) shows.newest ∙ ap (λ ps. verdict parts.settings s.newest ps octets) shows.packets
 
-settings-datagram : (parts : Parts) (moment : ℕ) (v : Result (ℕ × Content) Reason) → (with_datagram parts moment v).settings ≡ parts.settings
+settings-datagram : (parts : Parts) (moment : ℕ) (v : Result (ℕ × Content) NotTaken) → (with_datagram parts moment v).settings ≡ parts.settings
 settings-datagram parts moment (Err reason) = refl
 settings-datagram parts moment (Ok (n, content)) = refl
 
@@ -113,18 +113,18 @@ datagram-stands parts after moment octets what h handled stands =
     (stands-from parts (with_datagram parts moment (verdict parts.settings s.newest s.packets octets)) h (Datagram moment octets) (settings-datagram parts moment (verdict parts.settings s.newest s.packets octets)) (shows-datagram parts s (length h) moment (verdict parts.settings s.newest s.packets octets) shows))
 
 -- and the answer is the machine's
-pub datagram-reply : (parts after : Parts) (moment : ℕ) (octets : List ℕ) (what : What) (h : List Event) → IsHandled parts moment octets what after → StandsFor vp8 parts h → ToDatagram (record { what = what }) ≡ reply parts.settings vp8 h (Datagram moment octets)
+pub datagram-reply : (parts after : Parts) (moment : ℕ) (octets : List ℕ) (what : What) (h : List Event) → IsHandled parts moment octets what after → StandsFor vp8 parts h → ToDatagram (handled_as what) ≡ reply parts.settings vp8 h (Datagram moment octets)
 datagram-reply parts after moment octets what h handled stands =
     let s : Snapshot = latest (snapshots parts.settings vp8 h) in
     let same : verdict parts.settings parts.newest parts.packets octets ≡ verdict parts.settings s.newest s.packets octets = verdict-shown parts s (length h) octets (shows-from parts h stands) in
     ap to (handled.answer ∙ ap what_of same) ∙ sym (reply-is parts.settings vp8 h (Datagram moment octets)) where
       to : What → Reply
-      to w = ToDatagram (record { what = w })
+      to w = ToDatagram (handled_as w)
 
 -- a refused datagram moves the clock and the count alone
 pub datagram-refused : (parts after : Parts) (moment : ℕ) (octets : List ℕ) (what : What) → IsHandled parts moment octets what after → IsErr (verdict parts.settings parts.newest parts.packets octets) → after ≡ counted parts moment
 datagram-refused parts after moment octets what handled refused = handled.leaves ∙ alone (verdict parts.settings parts.newest parts.packets octets) refused where
-  alone : (v : Result (ℕ × Content) Reason) → IsErr v → with_datagram parts moment v ≡ counted parts moment
+  alone : (v : Result (ℕ × Content) NotTaken) → IsErr v → with_datagram parts moment v ≡ counted parts moment
   alone (Err reason) h = refl
   alone (Ok taken) h = absurd (true≢false (sym h))
 
@@ -163,9 +163,9 @@ datagram-settings parts after moment octets what handled = ap (λ p. p.settings)
 
 -- a datagram counts as one event, and moves the clock
 pub datagram-counts : (parts after : Parts) (moment : ℕ) (octets : List ℕ) (what : What) → IsHandled parts moment octets what after → (after.events ≡ parts.events + 1) × (after.clock ≡ max parts.clock moment)
-datagram-counts parts after moment octets what handled = let v : Result (ℕ × Content) Reason = verdict parts.settings parts.newest parts.packets octets in
+datagram-counts parts after moment octets what handled = let v : Result (ℕ × Content) NotTaken = verdict parts.settings parts.newest parts.packets octets in
     subst (λ (p : Parts). (p.events ≡ parts.events + 1) × (p.clock ≡ max parts.clock moment)) (sym handled.leaves) (counts v) where
-      counts : (v : Result (ℕ × Content) Reason) → ((with_datagram parts moment v).events ≡ parts.events + 1) × ((with_datagram parts moment v).clock ≡ max parts.clock moment)
+      counts : (v : Result (ℕ × Content) NotTaken) → ((with_datagram parts moment v).events ≡ parts.events + 1) × ((with_datagram parts moment v).clock ≡ max parts.clock moment)
       counts (Err reason) = (refl, refl)
       counts (Ok (n, content)) = (refl, refl)
 

@@ -2,7 +2,7 @@
 use Rattle.std.specs.Prelude.{◌≡◌, ℕ, ◌+◌, ◌<◌, ◌≤◌, List, ◌∷◌, ◌++◌, Option, Some, IsSomeAnd}
 use Rattle.vrx_codec.specs.Meaning.{Meaning}
 use Rattle.vrx_core.specs.Window.{Content, Media, at}
-use Rattle.vrx_core.specs.Machine.{ToDatagram, latest, reply, snapshots}
+use Rattle.vrx_core.specs.Machine.{handled_as, ToDatagram, latest, reply, snapshots}
 use Rattle.vrx_core.specs.declared.settings.Settings.{Settings}
 use Rattle.vrx_core.specs.declared.event.Event.{Event}
 use Rattle.vrx_core.specs.declared.event.Event.TheVariants.{Datagram}
@@ -16,7 +16,7 @@ pub record WasTaken (settings : Settings) (codec : Meaning) (h : List Event) (n 
   pub octets : List ℕ
   pub after : List Event
   pub history : h ≡ after ++ Datagram moment octets ∷ before
-  pub taken : reply settings codec before (Datagram moment octets) ≡ ToDatagram (record { what = what_became.Media n })
+  pub taken : reply settings codec before (Datagram moment octets) ≡ ToDatagram (handled_as (what_became.Media n))
   pub media : content ≡ Media octets
 
 -- a number lies in the window after the newest number

@@ -1,27 +1,58 @@
--- Which datagrams the receiver doesn't take yet. The reason goes away once all forms are taken.
-use Rattle.std.specs.Prelude.{ℕ, Bool, true, not, ◌==◌, nat_lt, List, [], ◌∷◌, length, slice_index, Option, Some, None}
-use Rattle.std.specs.List.{list_any}
+-- What octets say by themselves, whatever came before: the rows of the table of reasons that ask for nothing else.
+use Rattle.std.specs.Prelude.{ℕ, Bool, not, ◌||◌, ◌==◌, nat_lt, if◌then◌else◌, List, length, slice_index, Option, Some, None, is_some, Result, Ok, Err}
+use Rattle.std.specs.Option.{option_map}
 use Rattle.vrx_rtp.specs.Packet.{Packet}
-use Rattle.vrx_rtp.specs.Reading.{read}
+use Rattle.vrx_rtp.specs.Reading.{reading}
+use Rattle.vrx_rtp.specs.Rtcp.{is_rtcp}
+use Rattle.vrx_rtp.specs.declared.fault.RtpFault.{RtpFault}
+use Rattle.vrx_rtp.specs.declared.fault.RtpFaultKind.{RtpFaultKind}
+use Rattle.vrx_rtp.specs.declared.fault.RtpFaultKind.TheVariants.{Short, Version, CsrcPastEnd, ExtensionPastEnd, PaddingPastEnd}
+use Rattle.vrx_core.specs.Control.{is_compound}
 use Rattle.vrx_vp8.specs.Descriptor.{bit}
+use Rattle.vrx_core.specs.declared.form.NotTaken.{NotTaken}
+use Rattle.vrx_core.specs.declared.form.NotTaken.TheVariants.{Control, Refused}
+use Rattle.vrx_core.specs.declared.reply.Reason.{Reason}
+use Rattle.vrx_core.specs.declared.reply.Reason.TheVariants.{TooLong, BadRtcp, NotRtp, BadHeader, OtherSsrc, OtherType, Form}
 use Rattle.vrx_core.specs.declared.settings.Settings.{Settings}
 
--- what is refused of a packet (RFC 3550 5.1, RFC 7741 4.2)
-abbrev pub packet_forms : Settings → Packet → List Bool
-packet_forms settings packet =
-    -- another payload type; another SSRC
-    not (packet.pt == settings.media_type) ∷ not (packet.ssrc == settings.media_ssrc)
-    -- bit X of the payload's first octet
-    ∷ bit 128 (slice_index packet.payload 0) ∷ []
+-- a packet of the stream isn't taken so far: padding follows its payload; its payload has fewer than two octets; or bit X
+-- of the payload's first octet is 1 (RFC 7741 4.2). The reason goes away once all forms are taken
+abbrev pub is_form : Packet → Bool
+is_form packet = not (packet.padding == 0) || (nat_lt (length packet.payload) 2 || bit 128 (slice_index packet.payload 0))
 
--- what is refused of octets as they read: those that are no packet, or a packet's forms
-abbrev pub reading_forms : Settings → Option Packet → List Bool
-reading_forms settings None = true ∷ []
-reading_forms settings (Some packet) = packet_forms settings packet
+-- why a packet is refused: its SSRC isn't the media SSRC; its payload type isn't the media type; or its form
+abbrev pub packet_reason : Settings → Packet → Option Reason
+packet_reason settings packet =
+    if not (packet.ssrc == settings.media_ssrc) then Some OtherSsrc
+    else if not (packet.pt == settings.media_type) then Some OtherType
+    else if is_form packet then Some Form
+    else None
 
--- whether a datagram is refused: it has more than 9,216 octets, or fewer than 14, so that a header and two octets of
--- payload don't fit (both limits are this project's own); or its first octet isn't 0x80, so that it has another version,
--- or padding, an extension or contributing sources; or for how it reads
-abbrev pub is_form : Settings → List ℕ → Bool
-is_form settings octets =
-    list_any (λ refused. refused) (nat_lt 9216 (length octets) ∷ nat_lt (length octets) 14 ∷ not (slice_index octets 0 == 128) ∷ reading_forms settings (read octets))
+-- why octets are refused that are no packet (RFC 3550 5.1)
+abbrev pub fault_reason : RtpFaultKind → Reason
+fault_reason Short = NotRtp
+fault_reason Version = NotRtp
+fault_reason CsrcPastEnd = BadHeader
+fault_reason ExtensionPastEnd = BadHeader
+fault_reason PaddingPastEnd = BadHeader
+
+-- why octets are refused, as they read
+abbrev pub reading_reason : Settings → Result Packet RtpFault → Option Reason
+reading_reason settings (Err fault) = Some (fault_reason fault.kind)
+reading_reason settings (Ok packet) = packet_reason settings packet
+
+-- what becomes of RTCP: it isn't taken, and it is refused where the octets are no packets to their end
+abbrev pub control : List ℕ → NotTaken
+control octets = if is_compound octets then Control else Refused BadRtcp
+
+-- what becomes of octets that aren't taken, whatever came before: those that are too long (the limit is this project's
+-- own); then RTCP; and then those that are refused as they read
+abbrev pub aside : Settings → List ℕ → Option NotTaken
+aside settings octets =
+    if nat_lt 9216 (length octets) then Some (Refused TooLong)
+    else if is_rtcp octets then Some (control octets)
+    else option_map Refused (reading_reason settings (reading octets))
+
+-- whether octets aren't taken, whatever came before
+abbrev pub is_aside : Settings → List ℕ → Bool
+is_aside settings octets = is_some (aside settings octets)

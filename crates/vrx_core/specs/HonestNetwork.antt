@@ -1,8 +1,8 @@
--- An honest network: what it brings comes from the sender, or is octets of a form that the receiver doesn't take,
+-- An honest network: what it brings comes from the sender, or is octets that are RTCP or refused,
 -- whatever came before. Loss, repeats and order are free. So far there is no condition on pictures: frames have none.
 use Rattle.std.specs.Prelude.{◌≡◌, ℕ, ◌+◌, ◌≤◌, max, Bool, true, if◌then◌else◌, List, [], ◌∷◌, slice_get, IsSomeAnd, is_ok}
 use Rattle.vrx_codec.specs.Meaning.{Meaning}
-use Rattle.vrx_core.specs.Form.{is_form}
+use Rattle.vrx_core.specs.Form.{is_aside}
 use Rattle.vrx_core.specs.Verdict.{verdict}
 use Rattle.vrx_core.specs.Machine.{Snapshot, latest, snapshots}
 use Rattle.vrx_core.specs.Sender.{Sender}
@@ -39,11 +39,11 @@ IsNear i [] = Unit {0}
 IsNear i (j ∷ js) = (i ≤ greatest (j ∷ js) + 32768) × (greatest (j ∷ js) ≤ i + 32768)
 
 -- what an honest network may bring after a history: a wire form of a packet of the sender, near those taken; or
--- octets of a form that the receiver doesn't take, whatever came before. A pull is free
+-- octets that are RTCP or refused, whatever came before. A pull is free
 abbrev pub IsDelivery : Settings → Meaning → Sender → List Event → List Origin → Event → Origin → Type 0
 IsDelivery settings codec sender h origins (Pull moment) Elsewhere = Unit {0}
 IsDelivery settings codec sender h origins (Pull moment) (FromSender i) = ⊥
-IsDelivery settings codec sender h origins (Datagram moment octets) Elsewhere = is_form settings octets ≡ true
+IsDelivery settings codec sender h origins (Datagram moment octets) Elsewhere = is_aside settings octets ≡ true
 IsDelivery settings codec sender h origins (Datagram moment octets) (FromSender i) =
     IsSomeAnd (slice_get sender.packets i) (λ packet. IsWireForm packet octets) × IsNear i (taken settings codec h origins)
 

@@ -1,11 +1,12 @@
 -- An honest sender, for given settings and a codec. So far no frame has layers, and each packet is a part of a frame.
-use Rattle.std.specs.Prelude.{◌≡◌, ◌≢◌, ◌↔◌, ℕ, ◌+◌, ◌<◌, ◌≤◌, true, false, ◌==◌, if◌then◌else◌, List, [], ◌∷◌, map, length, slice_get, All, Contains, Some, None, IfSome, Ok}
+use Rattle.std.specs.Prelude.{◌≡◌, ◌≢◌, ◌↔◌, ℕ, ◌+◌, ◌<◌, ◌≤◌, true, false, ◌==◌, if◌then◌else◌, List, [], ◌∷◌, map, length, slice_get, slice_index, All, Contains, Some, None, IfSome, Ok}
 use Rattle.vrx_rtp.specs.Packet.{Packet}
 use Rattle.vrx_rtp.specs.Reading.{read}
 use Rattle.vrx_codec.specs.Part.{Part}
 use Rattle.vrx_codec.specs.declared.part.Start.TheVariants.{Yes, No}
 use Rattle.vrx_codec.specs.Meaning.{Meaning}
-use Rattle.vrx_core.specs.Form.{is_form}
+use Rattle.vrx_rtp.specs.Rtcp.{IsRtcp}
+use Rattle.vrx_vp8.specs.Descriptor.{bit}
 use Rattle.vrx_core.specs.Sender.{SentFrame, Media, Sender, wire_of}
 use Rattle.vrx_core.specs.Chain.{InChain}
 use Rattle.vrx_core.specs.declared.settings.Settings.{Settings}
@@ -18,7 +19,8 @@ pub record Carried : Type 0 where
 
 -- a media packet of the stream, under this sequence number: its text has at most 9,216 octets and reads as an RTP packet
 -- without padding, with the media type and the media SSRC; its payload isn't empty and is read by the codec (RFC 3550
--- 5.1); and it is of a form that the receiver takes so far
+-- 5.1); and the text isn't RTCP (RFC 5761 4). So far the payload has two octets or more, and bit X of the first is 0 (RFC
+-- 7741 4.2)
 pub record IsMedia (settings : Settings) (codec : Meaning) (wire : ℕ) (carried : Carried) : Type 0 where
   pub size : length carried.text ≤ 9216
   pub reads : read carried.text ≡ Some carried.packet
@@ -28,7 +30,9 @@ pub record IsMedia (settings : Settings) (codec : Meaning) (wire : ℕ) (carried
   pub source : carried.packet.ssrc ≡ settings.media_ssrc
   pub payload : carried.packet.payload ≢ []
   pub part_reads : codec.read carried.packet.payload ≡ Ok carried.part
-  pub form : is_form settings carried.text ≡ false
+  pub no_rtcp : IsRtcp carried.text → ⊥
+  pub long : 2 ≤ length carried.packet.payload
+  pub no_extension : bit 128 (slice_index carried.packet.payload 0) ≡ false
 
 -- packet i is part k of frame f, which has so many parts: it has the frame's timestamp, has the marker where it is the
 -- last part and not else, and begins the frame where it is the first part and not else (RFC 7741 4.1, 4.2); it has no

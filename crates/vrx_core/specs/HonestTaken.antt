@@ -2,7 +2,7 @@
 use Rattle.std.specs.Prelude.{◌≡◌, ℕ, ◌+◌, ◌<◌, ◌↔◌, true, List, [], ◌∷◌, slice_get, Contains, Some, IsSomeAnd}
 use Rattle.vrx_codec.specs.Meaning.{Meaning}
 use Rattle.vrx_core.specs.Window.{at, is_available}
-use Rattle.vrx_core.specs.Machine.{ToDatagram, latest, snapshots, reply}
+use Rattle.vrx_core.specs.Machine.{handled_as, ToDatagram, latest, snapshots, reply}
 use Rattle.vrx_core.specs.Sender.{Sender}
 use Rattle.vrx_core.specs.WireForm.{content_of}
 use Rattle.vrx_core.specs.HonestSender.{HonestSender}
@@ -40,7 +40,7 @@ pub record TakesPacket (settings : Settings) (codec : Meaning) (sender : Sender)
   -- it is taken exactly where its packet is one to take
   pub exactly : (takes settings codec h octets ≡ true) ↔ IsToTake i (taken settings codec h origins)
   -- where it is taken, the answer is the number by which the receiver knows the packet from then on
-  pub answer : takes settings codec h octets ≡ true → (n : ℕ) × IsNumber sender (i ∷ taken settings codec h origins) i n × (reply settings codec h (Datagram moment octets) ≡ ToDatagram (record { what = Media n }))
+  pub answer : takes settings codec h octets ≡ true → (n : ℕ) × IsNumber sender (i ∷ taken settings codec h origins) i n × (reply settings codec h (Datagram moment octets) ≡ ToDatagram (handled_as (Media n)))
 
 -- each datagram of the sender is taken and answered rightly
 abbrev pub IsTakenRightly : Settings → Meaning → Sender → List Event → List Origin → Event → Origin → Type 0

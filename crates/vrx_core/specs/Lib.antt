@@ -1,5 +1,7 @@
 pub mod Window
 pub mod History
+pub mod SettingsFault
+pub mod Control
 pub mod Form
 pub mod Verdict
 pub mod Run

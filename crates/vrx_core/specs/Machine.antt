@@ -2,6 +2,7 @@
 -- up nothing.
 use Rattle.std.specs.Prelude.{ℕ, max, List, [], ◌∷◌, map, Option, Some, None, Result, Ok, Err}
 use Rattle.std.specs.Option.{option_map}
+use Rattle.vrx_rtcp.specs.declared.feedback.Feedback.{Feedback}
 use Rattle.vrx_codec.specs.Meaning.{Meaning}
 use Rattle.vrx_core.specs.Window.{Content, Packets, newest_with, placed}
 use Rattle.vrx_core.specs.Verdict.{verdict}
@@ -11,9 +12,10 @@ use Rattle.vrx_core.specs.Deliverable.{answer}
 use Rattle.vrx_core.specs.declared.settings.Settings.{Settings}
 use Rattle.vrx_core.specs.declared.event.Event.{Event}
 use Rattle.vrx_core.specs.declared.event.Event.TheVariants.{Datagram, Pull}
-use Rattle.vrx_core.specs.declared.reply.Reason.{Reason}
+use Rattle.vrx_core.specs.declared.form.NotTaken.{NotTaken}
+use Rattle.vrx_core.specs.declared.form.NotTaken.TheVariants.{Control, Refused}
 use Rattle.vrx_core.specs.declared.reply.What.{What}
-use Rattle.vrx_core.specs.declared.reply.What.TheVariants.{Media, Dropped}
+use Rattle.vrx_core.specs.declared.reply.What.TheVariants.{Media, Rtcp, Dropped}
 use Rattle.vrx_core.specs.declared.reply.Handled.{Handled}
 use Rattle.vrx_core.specs.declared.reply.Frame.{Frame}
 use Rattle.vrx_core.specs.declared.reply.Pulled.{Pulled}
@@ -23,6 +25,14 @@ use Rattle.vrx_core.specs.declared.reply.Pulled.TheVariants as pulls
 pub data Reply : Type 0 where
   ToDatagram : (handled : Handled) → Reply
   ToPull : (pulled : Pulled) → Reply
+
+-- no feedback is to be sent
+abbrev pub no_feedback : Feedback
+no_feedback = record { nack = None; pli = None }
+
+-- the reply to a datagram of which this became: so far nothing is repaired, and no feedback is sent
+abbrev pub handled_as : What → Handled
+handled_as what = record { what = what; repaired = []; feedback = no_feedback }
 
 -- what stands after an event: the clock, the greatest number taken, the available packets, the frames pulled (the
 -- newest first), and the front of the passed numbers
@@ -63,9 +73,9 @@ pulled_of (Some frame) = pulls.Frame frame
 abbrev pub with_front : Option ℕ → Snapshot → Snapshot
 with_front before s = record s { front = front_after before (last_pulled s.pulled) s.packets }
 
--- what a datagram leaves: a refused one moves the clock alone
-abbrev pub after_datagram : Snapshot → ℕ → Result (ℕ × Content) Reason → Snapshot
-after_datagram s moment (Err reason) = record s { now = max s.now moment }
+-- what a datagram leaves: one that isn't taken moves the clock alone
+abbrev pub after_datagram : Snapshot → ℕ → Result (ℕ × Content) NotTaken → Snapshot
+after_datagram s moment (Err left) = record s { now = max s.now moment }
 after_datagram s moment (Ok (n, content)) = let newest : ℕ = newest_with s.newest n in
     with_front s.front (record s { now = max s.now moment; newest = Some newest; packets = placed newest n content s.packets })
 
@@ -78,13 +88,18 @@ abbrev pub next : Settings → Meaning → List Snapshot → Event → Snapshot
 next settings codec past (Datagram moment octets) = let s : Snapshot = latest past in after_datagram s moment (verdict settings s.newest s.packets octets)
 next settings codec past (Pull moment) = after_pull (latest past) moment (next_frame codec past)
 
+-- the answer to a datagram that isn't taken
+abbrev pub answer_of : NotTaken → What
+answer_of Control = Rtcp
+answer_of (Refused reason) = Dropped reason
+
 -- the answer of a verdict
-abbrev pub what_of : Result (ℕ × Content) Reason → What
-what_of (Err reason) = Dropped reason
+abbrev pub what_of : Result (ℕ × Content) NotTaken → What
+what_of (Err left) = answer_of left
 what_of (Ok taken) = Media taken.0
 
 abbrev pub reply_now : Settings → Meaning → List Snapshot → Event → Reply
-reply_now settings codec past (Datagram moment octets) = let s : Snapshot = latest past in ToDatagram (record { what = what_of (verdict settings s.newest s.packets octets) })
+reply_now settings codec past (Datagram moment octets) = let s : Snapshot = latest past in ToDatagram (handled_as (what_of (verdict settings s.newest s.packets octets)))
 reply_now settings codec past (Pull moment) = ToPull (pulled_of (next_frame codec past))
 
 -- one snapshot more

@@ -1,17 +1,73 @@
--- When a datagram is taken, and when each reason refuses it.
-use Rattle.std.specs.Prelude.{◌≡◌, ◌↔◌, ℕ, ◌+◌, ◌<◌, ◌≤◌, true, false, List, Option, Some, IfSome, IsSomeAnd, Result, Ok, Err}
+-- When a datagram is taken, and what becomes of it else.
+use Rattle.std.specs.Prelude.{◌≡◌, ◌≢◌, ◌↔◌, ◌⊎◌, ℕ, ◌+◌, ◌<◌, ◌≤◌, true, false, List, length, All, Option, Some, IfSome, IsSomeAnd, Result, Ok, Err}
 use Rattle.vrx_num.specs.Extended.{IsHalfAway}
-use Rattle.vrx_rtp.specs.Reading.{read}
-use Rattle.vrx_core.specs.Form.{is_form}
+use Rattle.vrx_rtp.specs.Packet.{Packet}
+use Rattle.vrx_rtp.specs.Reading.{reading, read}
+use Rattle.vrx_rtp.specs.Rtcp.{IsRtcp}
+use Rattle.vrx_rtp.specs.declared.fault.RtpFault.{RtpFault}
+use Rattle.vrx_rtp.specs.declared.fault.RtpFaultKind.{RtpFaultKind}
+use Rattle.vrx_rtp.specs.declared.fault.RtpFaultKind.TheVariants.{Short, Version, CsrcPastEnd, ExtensionPastEnd, PaddingPastEnd}
+use Rattle.vrx_rtcp.specs.Compound.{Spelled, IsCompound, HasFault}
+use Rattle.vrx_rtcp.specs.declared.fault.RtcpFault.{RtcpFault}
+use Rattle.vrx_core.specs.Form.{is_form, is_aside}
 use Rattle.vrx_core.specs.Window.{Content, Media, Packets, is_available}
 use Rattle.vrx_core.specs.Verdict.{number_of, verdict}
 use Rattle.vrx_core.specs.declared.settings.Settings.{Settings}
-use Rattle.vrx_core.specs.declared.reply.Reason.{Reason}
-use Rattle.vrx_core.specs.declared.reply.Reason.TheVariants.{Form, TooFar, TooOld, Repeat}
+use Rattle.vrx_core.specs.declared.form.NotTaken.{NotTaken}
+use Rattle.vrx_core.specs.declared.form.NotTaken.TheVariants.{Control, Refused}
+use Rattle.vrx_core.specs.declared.reply.Reason.TheVariants.{TooLong, BadRtcp, NotRtp, BadHeader, OtherSsrc, OtherType, Form, TooFar, TooOld, Repeat}
 
--- a datagram of a form that is taken has this extended number
+-- a datagram isn't too long, and is RTCP
+pub record IsControl (octets : List ℕ) : Type 0 where
+  pub size : length octets ≤ 9216
+  pub rtcp : IsRtcp octets
+
+-- a datagram isn't too long, and isn't RTCP
+pub record IsForRtp (octets : List ℕ) : Type 0 where
+  pub size : length octets ≤ 9216
+  pub other : IsRtcp octets → ⊥
+
+-- octets that are for RTP read as this packet
+pub record IsRead (octets : List ℕ) (packet : Packet) : Type 0 where
+  pub rtp : IsForRtp octets
+  pub reads : reading octets ≡ Ok packet
+
+-- the packet is one of the stream
+pub record IsOfStream (settings : Settings) (packet : Packet) : Type 0 where
+  pub source : packet.ssrc ≡ settings.media_ssrc
+  pub type : packet.pt ≡ settings.media_type
+
+-- octets that are for RTP have this fault as such
+pub record IsMisread (octets : List ℕ) (what : RtpFaultKind) : Type 0 where
+  pub rtp : IsForRtp octets
+  pub fault : RtpFault
+  pub reads : reading octets ≡ Err fault
+  pub kind : fault.kind ≡ what
+
+-- what each answer means that octets get by themselves
+abbrev pub MeansAside : Settings → List ℕ → NotTaken → Type 0
+-- the datagram has more than 9,216 octets
+MeansAside settings octets (Refused TooLong) = 9216 < length octets
+-- it is RTCP, and has a fault
+MeansAside settings octets (Refused BadRtcp) = IsControl octets × (fault : RtcpFault) × HasFault octets fault
+-- it is RTCP, and packets to its end
+MeansAside settings octets Control = IsControl octets × (packets : List Spelled) × IsCompound octets packets
+-- it is shorter than a header, or its version isn't 2
+MeansAside settings octets (Refused NotRtp) = IsMisread octets Short ⊎ IsMisread octets Version
+-- its contributing sources, its extension or its padding run past its end
+MeansAside settings octets (Refused BadHeader) = IsMisread octets CsrcPastEnd ⊎ (IsMisread octets ExtensionPastEnd ⊎ IsMisread octets PaddingPastEnd)
+-- it is a packet of another SSRC
+MeansAside settings octets (Refused OtherSsrc) = (packet : Packet) × IsRead octets packet × (packet.ssrc ≢ settings.media_ssrc)
+-- it is a packet of the media SSRC and of another payload type
+MeansAside settings octets (Refused OtherType) = (packet : Packet) × IsRead octets packet × (packet.ssrc ≡ settings.media_ssrc) × (packet.pt ≢ settings.media_type)
+-- it is a packet of the stream, of a form that isn't taken
+MeansAside settings octets (Refused Form) = (packet : Packet) × IsRead octets packet × IsOfStream settings packet × (is_form packet ≡ true)
+-- no other answer comes so
+MeansAside settings octets (Refused _) = ⊥
+
+-- a datagram that isn't set aside by itself has this extended number
 pub record IsNumbered (settings : Settings) (newest : Option ℕ) (octets : List ℕ) (n : ℕ) : Type 0 where
-  pub form : is_form settings octets ≡ false
+  pub form : is_aside settings octets ≡ false
   pub number : number_of newest octets ≡ Some n
 
 -- a number lies below the window of the newest number
@@ -19,20 +75,20 @@ abbrev pub IsBelow : Option ℕ → ℕ → Type 0
 IsBelow newest n = IsSomeAnd newest (λ m. n + 2048 ≤ m)
 
 -- what each verdict means, beside the newest number and the available packets
-abbrev pub Means : Settings → Option ℕ → Packets → List ℕ → Result (ℕ × Content) Reason → Type 0
--- the datagram is of a form that isn't taken
-Means settings newest packets octets (Err Form) = is_form settings octets ≡ true
--- it is of one that is taken, and its wire number lies just half of the number space away from the newest number
-Means settings newest packets octets (Err TooFar) = (is_form settings octets ≡ false) × IsSomeAnd (read octets) (λ packet. IsHalfAway newest packet.seq)
+abbrev pub Means : Settings → Option ℕ → Packets → List ℕ → Result (ℕ × Content) NotTaken → Type 0
+-- the datagram isn't set aside by itself, and its wire number lies just half of the number space away from the newest number
+Means settings newest packets octets (Err (Refused TooFar)) = (is_aside settings octets ≡ false) × IsSomeAnd (read octets) (λ packet. IsHalfAway newest packet.seq)
 -- it has an extended number, which lies below the window
-Means settings newest packets octets (Err TooOld) = (n : ℕ) × IsNumbered settings newest octets n × IsBelow newest n
+Means settings newest packets octets (Err (Refused TooOld)) = (n : ℕ) × IsNumbered settings newest octets n × IsBelow newest n
 -- it has an extended number, which doesn't lie below the window and is available
-Means settings newest packets octets (Err Repeat) = (n : ℕ) × IsNumbered settings newest octets n × (IsBelow newest n → ⊥) × (is_available n packets ≡ true)
+Means settings newest packets octets (Err (Refused Repeat)) = (n : ℕ) × IsNumbered settings newest octets n × (IsBelow newest n → ⊥) × (is_available n packets ≡ true)
+-- every other answer comes by the octets themselves
+Means settings newest packets octets (Err left) = MeansAside settings octets left
 -- it has this extended number, which doesn't lie below the window and isn't available, and its octets are media
 Means settings newest packets octets (Ok (n, content)) = IsNumbered settings newest octets n × (IsBelow newest n → ⊥) × (is_available n packets ≡ false) × (content ≡ Media octets)
 
--- a verdict comes exactly where its meaning holds. No newest number lies so near to 0 that a number nearer than half of
--- the space would lie below 0, and a wire number has 16 bits
+-- a verdict comes exactly where its meaning holds, of octets, which are below 256. No newest number lies so near to 0 that a
+-- number nearer than half of the space would lie below 0, and a wire number has 16 bits
 abbrev pub ReasonsHolds : Type 0
-ReasonsHolds = (settings : Settings) (newest : Option ℕ) (packets : Packets) (octets : List ℕ) → IfSome newest (λ m. 32768 ≤ m) → IfSome (read octets) (λ packet. packet.seq < 65536)
-    → (result : Result (ℕ × Content) Reason) → (verdict settings newest packets octets ≡ result) ↔ Means settings newest packets octets result
+ReasonsHolds = (settings : Settings) (newest : Option ℕ) (packets : Packets) (octets : List ℕ) → All (λ octet. octet < 256) octets → IfSome newest (λ m. 32768 ≤ m) → IfSome (read octets) (λ packet. packet.seq < 65536)
+    → (result : Result (ℕ × Content) NotTaken) → (verdict settings newest packets octets ≡ result) ↔ Means settings newest packets octets result

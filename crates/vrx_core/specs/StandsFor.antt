@@ -1,5 +1,5 @@
 -- The engine as contracts see it, and the history that it stands for.
-use Rattle.std.specs.Prelude.{◌≡◌, ◌≤◌, ◌<◌, ◌⊎◌, ℕ, false, List, length, Contains, Option}
+use Rattle.std.specs.Prelude.{◌≡◌, ℕ, false, List, length, Contains, Option}
 use Rattle.vrx_codec.specs.Meaning.{Meaning}
 use Rattle.vrx_core.specs.Window.{Packets}
 use Rattle.vrx_core.specs.Run.{Run, runs}
@@ -30,7 +30,3 @@ pub record StandsFor (codec : Meaning) (parts : Parts) (h : List Event) : Type 0
 -- before: a VP8 packet says itself whether it begins a frame
 abbrev pub NoneDeliverable : Meaning → Parts → Type 0
 NoneDeliverable codec parts = (times : List Packets) (run : Run) → Contains (runs codec parts.last_pulled times parts.packets) run → is_deliverable parts.last_pulled parts.last_pulled run ≡ false
-
--- a payload type is 64 to 95, which RTCP takes on a shared port (RFC 5761 4), or has more than seven bits
-abbrev pub IsBadType : ℕ → Type 0
-IsBadType type = ((64 ≤ type) × (type ≤ 95)) ⊎ (127 < type)

@@ -5,7 +5,7 @@ use Rattle.std.specs.Option.{option_map, option_map_or, option_and_then, option_
 use Rattle.std.specs.Ordering.{nat_cmp}
 use Rattle.std.specs.FinMap.Entries.{is_sorted}
 use Rattle.vrx_vp8.specs.Descriptor.{bit}
-use Rattle.vrx_core.specs.Form.{is_form}
+use Rattle.vrx_core.specs.Form.{is_aside}
 use Rattle.vrx_core.specs.Window.{Content, Media, Packets, newest_with, placed}
 use Rattle.vrx_rtp.specs.Packet.{Packet}
 use Rattle.vrx_rtp.specs.Reading.{read}
@@ -15,21 +15,21 @@ use Rattle.vrx_core.specs.Machine.{what_of}
 use Rattle.vrx_core.specs.declared.reply.What.{What}
 use Rattle.vrx_core.specs.StandsFor.{Parts}
 use Rattle.vrx_core.specs.declared.settings.Settings.{Settings}
-use Rattle.vrx_core.specs.declared.reply.Reason.{Reason}
+use Rattle.vrx_core.specs.declared.form.NotTaken.{NotTaken}
 use Rattle.vrx_core.specs.declared.reply.Frame.{Frame}
 
 -- a verdict by the number alone, for these octets
-abbrev pub with_octets : List ℕ → Result ℕ Reason → Result (ℕ × Content) Reason
+abbrev pub with_octets : List ℕ → Result ℕ NotTaken → Result (ℕ × Content) NotTaken
 with_octets octets (Ok n) = Ok (n, Media octets)
-with_octets octets (Err reason) = Err reason
+with_octets octets (Err left) = Err left
 
 -- the parts after one event more, at this moment
 abbrev pub counted : Parts → ℕ → Parts
 counted parts moment = record parts { events = parts.events + 1; clock = max parts.clock moment }
 
 -- the parts after a datagram of this verdict
-abbrev pub with_datagram : Parts → ℕ → Result (ℕ × Content) Reason → Parts
-with_datagram parts moment (Err reason) = counted parts moment
+abbrev pub with_datagram : Parts → ℕ → Result (ℕ × Content) NotTaken → Parts
+with_datagram parts moment (Err left) = counted parts moment
 with_datagram parts moment (Ok (n, content)) = let newest : ℕ = newest_with parts.newest n in
     record (counted parts moment) { newest = Some newest; packets = placed newest n content parts.packets }
 
@@ -49,7 +49,7 @@ parts_of settings events clock newest packets last_pulled = record { settings = 
 
 -- an entry is a media packet of a form that the receiver takes
 abbrev pub IsTaken : Settings → Content → Type 0
-IsTaken settings content = (text : List ℕ) × (content ≡ Media text) × (is_form settings text ≡ false)
+IsTaken settings content = (text : List ℕ) × (content ≡ Media text) × (is_aside settings text ≡ false)
 
 abbrev pub AreTaken : Settings → Packets → Type 0
 AreTaken settings [] = Unit {0}

@@ -3,25 +3,27 @@ use Rattle.std.specs.Prelude.{ℕ, ◌+◌, Bool, true, false, nat_le, List, Opt
 use Rattle.std.specs.Option.{option_and_then}
 use Rattle.vrx_num.specs.Extended.{extended}
 use Rattle.vrx_rtp.specs.Reading.{read}
-use Rattle.vrx_core.specs.Form.{is_form}
+use Rattle.vrx_core.specs.Form.{aside}
 use Rattle.vrx_core.specs.Window.{Content, Media, Packets, is_available}
 use Rattle.vrx_core.specs.declared.settings.Settings.{Settings}
+use Rattle.vrx_core.specs.declared.form.NotTaken.{NotTaken}
+use Rattle.vrx_core.specs.declared.form.NotTaken.TheVariants.{Refused}
 use Rattle.vrx_core.specs.declared.reply.Reason.{Reason}
-use Rattle.vrx_core.specs.declared.reply.Reason.TheVariants.{Form, TooFar, TooOld, Repeat}
+use Rattle.vrx_core.specs.declared.reply.Reason.TheVariants.{TooFar, TooOld, Repeat}
 
 infixl 10 ◌>>=◌
-abbrev pub ◌>>=◌ : {A B : Type 0} → Result A Reason → (A → Result B Reason) → Result B Reason
+abbrev pub ◌>>=◌ : {A B : Type 0} → Result A NotTaken → (A → Result B NotTaken) → Result B NotTaken
 (Ok x) >>= f = f x
-(Err reason) >>= f = Err reason
+(Err left) >>= f = Err left
 
 infixl 10 ◌>>◌
-abbrev pub ◌>>◌ : {A : Type 0} → Option Reason → Result A Reason → Result A Reason
+abbrev pub ◌>>◌ : {A : Type 0} → Option NotTaken → Result A NotTaken → Result A NotTaken
 None >> rest = rest
-(Some reason) >> rest = Err reason
+(Some left) >> rest = Err left
 
 -- a row of the table: the reason comes where the condition holds, and no row above it applies
-abbrev pub refused : Reason → Bool → Option Reason
-refused reason true = Some reason
+abbrev pub refused : Reason → Bool → Option NotTaken
+refused reason true = Some (Refused reason)
 refused reason false = None
 
 -- the extended number of a packet (RFC 3550 A.1), where it has one
@@ -33,12 +35,12 @@ abbrev pub is_too_old : Option ℕ → ℕ → Bool
 is_too_old None n = false
 is_too_old (Some newest) n = nat_le (n + 2048) newest
 
--- the table of reasons, after a history in which these are the newest number and the available packets. A
--- datagram that no row refuses is taken, by its number and what it holds
-abbrev pub verdict : Settings → Option ℕ → Packets → List ℕ → Result (ℕ × Content) Reason
+-- the table of reasons, after a history in which these are the newest number and the available packets. A datagram that
+-- no row sets aside is taken, by its number and what it holds
+abbrev pub verdict : Settings → Option ℕ → Packets → List ℕ → Result (ℕ × Content) NotTaken
 verdict settings newest packets octets = do
-  refused Form (is_form settings octets)
-  n ← ok_or (number_of newest octets) TooFar
+  aside settings octets
+  n ← ok_or (number_of newest octets) (Refused TooFar)
   refused TooOld (is_too_old newest n)
   refused Repeat (is_available n packets)
   Ok (n, Media octets)

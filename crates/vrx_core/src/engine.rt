@@ -1,23 +1,27 @@
 //! The engine: two events and what each answers.
 
-ghost use Rattle.std.specs.Prelude.{◌≡◌, ◌+◌, ◌<◌, ◌≤◌, ◌↔◌, max, List, [], ◌∷◌, None, OnOk, OnErr, IfOk, IsOk, IsErr, IsErrOf, IsTrue};
+ghost use Rattle.std.specs.Prelude.{◌≡◌, ◌⊎◌, ◌+◌, ◌<◌, ◌≤◌, ◌↔◌, max, List, [], ◌∷◌, Some, None, OnOk, OnErr, IfOk, IfErr, IsOk, IsErr, IsErrOf};
 ghost use Rattle.vrx_vp8.specs.Descriptor.{vp8};
-ghost use Rattle.vrx_core.specs.Machine.{Reply, ToDatagram, ToPull, what_of, pulled_of, reply};
+ghost use Rattle.vrx_core.specs.Machine.{Reply, ToDatagram, ToPull, no_feedback, answer_of as answer_of_left, what_of, pulled_of, reply};
 ghost use Rattle.vrx_core.specs.Verdict.{verdict as verdict_of};
-ghost use Rattle.vrx_core.specs.StandsFor.{StandsFor, NoneDeliverable, IsBadType};
+ghost use Rattle.vrx_core.specs.SettingsFault.{IsFault, fault_of};
+ghost use Rattle.vrx_core.specs.StandsFor.{StandsFor, NoneDeliverable};
 ghost use Rattle.vrx_core.specs.Window.{newest_with as newest_of};
 ghost use Rattle.vrx_core.specs.Step.{IsSound, IsHandled, counted, with_pull, next_run, next_joined};
 ghost use Rattle.vrx_core.specs.declared.event.Event.{Event};
 
+use crate::form::NotTaken;
 use crate::held::{Held, place};
 use crate::reply::{Frame, Handled, Pulled, What};
 use crate::runs::next_frame;
 use crate::settings::{NewFault, Settings};
+use crate::settings_fault::fault_of as first_fault;
 use crate::verdict::verdict;
 use bytes::Bytes;
 use std::alloc::Global;
 use std::marker::Model;
-use vrx_num::{Extender, NoMemory};
+use vrx_num::{Extender, NoMemory, Numbers};
+use vrx_rtcp::Feedback;
 
 /// An engine takes at most so many events.
 pub const MOST_EVENTS: u32 = 1_048_576;
@@ -41,6 +45,7 @@ pub struct Engine {
 }
 
 impl Model for Engine {
+    ghost use Rattle.vrx_core.specs.SettingsFault.{IsFault, fault_of};
     ghost use Rattle.vrx_core.specs.StandsFor.{Parts};
     ghost use Rattle.vrx_core.specs.Step.{parts_of, IsSound};
     ghost use Rattle.vrx_core.specs.Held.{entries};
@@ -50,13 +55,6 @@ impl Model for Engine {
     ghost view = { λ a. parts_of a.settings a.events a.clock a.extender (entries a.held.items) a.last_pulled };
 
     ghost invariant = { λ a. IsSound (parts_of a.settings a.events a.clock a.extender (entries a.held.items) a.last_pulled) };
-}
-
-/// Whether a payload type can't be the media type.
-fn is_bad_type(payload_type: u8) -> bool
-    ensures { IsTrue result ↔ IsBadType payload_type }
-{
-    (64..=95).contains(&payload_type) || payload_type > 127
 }
 
 /// The newest number once a number is taken.
@@ -69,23 +67,44 @@ fn newest_with(newest: Option<u64>, number: u64) -> u64
     }
 }
 
+/// The answer to a datagram that isn't taken.
+fn answer_of(left: NotTaken) -> What
+    ensures { result ≡ answer_of_left left }
+{
+    match left {
+        NotTaken::Control => What::Rtcp,
+        NotTaken::Refused(reason) => What::Dropped(reason),
+    }
+}
+
 impl Engine {
     /// An engine before its first event.
     ///
     /// The faults are tested in their order, and memory is taken after them.
     pub fn new(alloc: Global, settings: Settings) -> Result<Engine, NewFault>
-        ensures bad_type { IsErrOf result NewFault.BadType ↔ IsBadType settings.media_type }
-        ensures same_ssrc { IsErrOf result NewFault.SameSsrc ↔
-            (¬ IsBadType settings.media_type × (settings.media_ssrc ≡ settings.from_ssrc)) }
+        ensures bad_type { IsErrOf result NewFault.BadType ↔ IsFault settings NewFault.BadType }
+        ensures same_type { IsErrOf result NewFault.SameType ↔ IsFault settings NewFault.SameType }
+        ensures same_ssrc { IsErrOf result NewFault.SameSsrc ↔ IsFault settings NewFault.SameSsrc }
+        ensures red_missing { IsErrOf result NewFault.RedMissing ↔ IsFault settings NewFault.RedMissing }
+        ensures bad_interval { IsErrOf result NewFault.BadInterval ↔ IsFault settings NewFault.BadInterval }
+        ensures later { IsErrOf result NewFault.Later ↔ IsFault settings NewFault.Later }
+        ensures taken { IfOk result (λ _. fault_of settings ≡ None) }
+        ensures refused { IfErr result (λ fault. (fault ≡ NewFault.NoMemory) ⊎ (fault_of settings ≡ Some fault)) }
         ensures stands { IfOk result (λ engine. StandsFor vp8 engine []) }
         ensures settings { IfOk result (λ engine. engine.settings ≡ settings) }
     {
-        if is_bad_type(settings.media_type) {
-            return Err(NewFault::BadType);
+        match first_fault(&settings) {
+            Some(fault) => Err(fault),
+            None => Engine::opened(alloc, settings),
         }
-        if settings.media_ssrc == settings.from_ssrc {
-            return Err(NewFault::SameSsrc);
-        }
+    }
+
+    /// An engine of settings that have no fault. Nothing but want of memory hinders it.
+    fn opened(alloc: Global, settings: Settings) -> Result<Engine, NewFault>
+        ensures stands { IfOk result (λ engine. StandsFor vp8 engine []) }
+        ensures settings { IfOk result (λ engine. engine.settings ≡ settings) }
+        ensures no_memory { IfErr result (λ fault. fault ≡ NewFault.NoMemory) }
+    {
         let Ok(held) = Vec::with_capacity(alloc, ROOM) else {
             return Err(NewFault::NoMemory);
         };
@@ -117,8 +136,8 @@ impl Engine {
 
     /// Takes a datagram that came at this moment, in milliseconds.
     ///
-    /// `NoMemory` changes nothing, the clock and the count included. A refused datagram is never answered so, and moves
-    /// the clock and the count alone. What became of it is the verdict over the newest number and the packets.
+    /// `NoMemory` changes nothing, the clock and the count included. A datagram that is refused or RTCP is never answered
+    /// so, and moves the clock and the count alone. What became of it is the verdict over the newest number and the packets.
     pub fn datagram(&mut self, moment: u64, bytes: &[u8]) -> Result<Handled, NoMemory>
         requires { self.old.events < 1048576 }
         ensures stands { (h : List Event) → StandsFor vp8 self.old h →
@@ -127,6 +146,7 @@ impl Engine {
             IfOk result (λ handled. ToDatagram handled ≡ reply self.old.settings vp8 h (Event.Datagram moment bytes.now)) }
         ensures what { IfOk result (λ handled.
             handled.what ≡ what_of (verdict_of self.old.settings self.old.newest self.old.packets bytes.now)) }
+        ensures quiet { IfOk result (λ handled. (handled.repaired ≡ []) × (handled.feedback ≡ no_feedback)) }
         ensures counts { OnOk result ((self.new.events ≡ self.old.events + 1) ×
             (self.new.clock ≡ max self.old.clock moment)) }
         ensures settings { self.new.settings ≡ self.old.settings }
@@ -135,7 +155,14 @@ impl Engine {
             IsOk result × (self.new ≡ counted self.old moment) }
     {
         let what = self.handle(moment, bytes)?;
-        Ok(Handled { what })
+        Ok(Handled {
+            what,
+            repaired: Numbers::new(self.alloc),
+            feedback: Feedback {
+                nack: None,
+                pli: None,
+            },
+        })
     }
 
     /// Gives the decoder the next frame, at this moment in milliseconds.
@@ -165,7 +192,7 @@ impl Engine {
         }
     }
 
-    /// Handles a datagram. Memory is taken first: an `Err` changes nothing, and a refused datagram takes none.
+    /// Handles a datagram. Memory is taken first: an `Err` changes nothing, and one that isn't taken takes none.
     fn handle(&mut self, moment: u64, octets: &[u8]) -> Result<What, NoMemory>
         requires { self.old.events < 1048576 }
         ensures value { IfOk result (λ what. IsHandled self.old moment octets.now what self.new) }
@@ -174,7 +201,7 @@ impl Engine {
             IsOk result }
     {
         let what = match verdict(&self.settings, &self.extender, &self.held, octets) {
-            Err(reason) => What::Dropped(reason),
+            Err(left) => answer_of(left),
             Ok(number) => {
                 let text = Bytes::copy_from_slice(self.alloc, octets)?;
                 let newest = newest_with(self.extender.newest(), number);

@@ -6,11 +6,11 @@ ghost use Rattle.vrx_core.specs.HonestTaken.{HonestTakenHolds};
 
 /// The honest call. An honest sender sends keyframes and delta frames of any number of packets each. An honest network
 /// brings what was sent, with loss, repeats and in any order, each packet at most 32,768 places away from the greatest
-/// one taken so far, and beside it only octets of a form that the receiver doesn't take. Then the frames pulled are frames
-/// that were sent, byte for byte, in the order in which they were sent, each at most once, from a keyframe on, and each
-/// after its chain and its references. Each pull is answered by the least frame that is ready, and by `NotReady` exactly
-/// where none is. It holds for all settings and every codec's meaning, of forms that the receiver takes, which so far name
-/// VP8's bits.
+/// one taken so far, and beside it only octets that are RTCP or are refused whatever came before. Then the frames pulled
+/// are frames that were sent, byte for byte, in the order in which they were sent, each at most once, from a keyframe on,
+/// and each after its chain and its references. Each pull is answered by the least frame that is ready, and by `NotReady`
+/// exactly where none is. It holds for all settings and every codec's meaning, of forms that the receiver takes, which so
+/// far name VP8's bits.
 pub fn honest_call()
     ensures { HonestCallHolds }
 {}

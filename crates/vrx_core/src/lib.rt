@@ -14,6 +14,7 @@ mod meanings;
 mod reply;
 mod runs;
 mod settings;
+mod settings_fault;
 #[cfg(test)]
 mod tests;
 mod verdict;
@@ -25,4 +26,4 @@ pub use meanings::{
     available_are, clock_is, none_passed, passed_stays, pulled_rise, reasons_mean, runs_are,
 };
 pub use reply::{Frame, FrameBytes, Handled, Pulled, Reason, What};
-pub use settings::{NewFault, Settings};
+pub use settings::{NewFault, Red, Rtx, Settings};

@@ -7,12 +7,16 @@ ghost use Rattle.vrx_core.specs.Passed.{NonePassedHolds, PassedStaysHolds};
 ghost use Rattle.vrx_core.specs.PulledRise.{PulledRiseHolds};
 ghost use Rattle.vrx_core.specs.Reasons.{ReasonsHolds};
 
-/// Each reason refuses a datagram exactly where it should, for a newest number of 32,768 or more, where there is one,
-/// and a sequence number of 16 bits.
+/// Each answer comes exactly where it should, of octets below 256, for a newest number of 32,768 or more, where there is
+/// one, and a sequence number of 16 bits.
 ///
-/// `Form`: it is of a form that isn't taken. `TooFar`: it is of one that is, and its sequence number lies just half of
-/// the number space away from the newest number. `TooOld`: its extended number lies 2,048 or more below the newest.
-/// `Repeat`: neither, and its number is available. Else it is taken.
+/// What octets get by themselves, whatever came before: `TooLong`, they are more than 9,216; `BadRtcp`, they are RTCP and
+/// have a fault; `Rtcp`, they are RTCP packets to their end; `NotRtp`, they are shorter than a header or of another
+/// version; `BadHeader`, what their header counts runs past their end; `OtherSsrc`, `OtherType`, they are a packet of
+/// another SSRC or payload type; `Form`, they are one of the stream, of a form that isn't taken. Then `TooFar`: the
+/// sequence number lies just half of the number space away from the newest number. `TooOld`: the extended number lies
+/// 2,048 or more below the newest. `Repeat`: neither, and the number is available. Else the datagram is taken. No other
+/// reason comes so far.
 pub fn reasons_mean()
     ensures { ReasonsHolds }
 {}

@@ -4,19 +4,51 @@ ghost use Rattle.std.specs.Prelude.{◌≡◌, [], ◌∷◌, ◌++◌, OnOk, On
 
 use std::alloc::Global;
 use std::marker::Model;
-use vrx_num::NoMemory;
+use vrx_num::{NoMemory, Numbers};
+use vrx_rtcp::Feedback;
 
 /// Why a datagram was refused. Under each of them all stays as it was but the clock and the count of events.
+///
+/// They stand in the order in which they are tested, but for `Form`, which is tested before `TooFar`.
 #[derive(Clone, Copy, Debug, PartialEq, Eq)]
 pub enum Reason {
-    /// It isn't a packet of a form that the receiver takes so far: `specs/Form.antt` lists the conditions.
-    Form,
+    /// It has more than 9,216 octets.
+    TooLong,
+    /// It is RTCP (RFC 5761 4), and no whole of RTCP packets.
+    BadRtcp,
+    /// It is shorter than an RTP header, or its version isn't 2 (RFC 3550 5.1).
+    NotRtp,
+    /// Its contributing sources, its header extension or its padding run past its end (RFC 3550 5.1).
+    BadHeader,
+    /// Its SSRC isn't one of the settings.
+    OtherSsrc,
+    /// Its payload type isn't one that the settings have for its SSRC.
+    OtherType,
+    /// It is a retransmission of a payload type that the settings don't have. It isn't told so far.
+    NoApt,
+    /// It is a retransmission without an original sequence number (RFC 4588 4). It isn't told so far.
+    RtxEmpty,
+    /// It is RED of more than one block (RFC 2198 3). It isn't told so far.
+    MoreBlocks,
+    /// It is RED, and its block is neither media nor FEC. It isn't told so far.
+    BadRed,
+    /// It is FEC that doesn't read (RFC 5109 7). It isn't told so far.
+    BadFec,
+    /// Its payload is no part of a frame, for this fault of the codec's. It isn't told so far.
+    BadPart {
+        /// The codec's number of the fault.
+        code: u8,
+    },
     /// Its sequence number lies just half of the number space away from the newest, so it has no extended number.
     TooFar,
     /// Its number lies below the window.
     TooOld,
+    /// Its number was given up. It isn't told so far.
+    Dead,
     /// Its number is available already.
     Repeat,
+    /// Its payload is of a form that the receiver doesn't take so far: `specs/Form.antt` lists the conditions.
+    Form,
 }
 
 /// What became of a datagram.
@@ -24,15 +56,25 @@ pub enum Reason {
 pub enum What {
     /// It was taken as the media packet of this extended sequence number.
     Media(u64),
+    /// It was taken as the FEC packet of this extended sequence number. So far none is.
+    Fec(u64),
+    /// It was taken as the packet of this extended sequence number, and has no payload. So far none is.
+    Empty(u64),
+    /// It is RTCP, and changed nothing but the clock and the count of events.
+    Rtcp,
     /// It was refused.
     Dropped(Reason),
 }
 
 /// The reply to a datagram.
-#[derive(Clone, Copy, Debug, PartialEq, Eq)]
+#[derive(Debug, Drop)]
 pub struct Handled {
     /// What became of it.
     pub what: What,
+    /// The extended sequence numbers of the packets that were repaired by it. So far none are.
+    pub repaired: Numbers,
+    /// The feedback that is to be sent. So far there is none.
+    pub feedback: Feedback,
 }
 
 /// The reply to a pull.

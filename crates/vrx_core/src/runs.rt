@@ -3,7 +3,7 @@
 ghost use Rattle.std.specs.Prelude.{◌≡◌, ◌+◌, ◌<◌, ◌≤◌, ◌&&◌, not, ◌==◌, if◌then◌else◌, false, length, drop, take, Some, None, IfSome, IfOk, IsOk, MatchOption};
 ghost use Rattle.std.specs.List.{flat_map};
 ghost use Rattle.vrx_rtp.specs.View.{view};
-ghost use Rattle.vrx_core.specs.Form.{is_form};
+ghost use Rattle.vrx_core.specs.Form.{is_aside};
 ghost use Rattle.vrx_core.specs.Step.{AreTaken, is_beyond, follows as follows_of, is_due as is_due_of, begins_frame as begins_frame_of, is_key as is_key_of, packet_in, key_in, body_in, goes_on as goes_on_of, run_length as run_length_of, due_length as due_length_of, next_run as next_run_of, joined as joined_of, next_joined};
 ghost use Rattle.vrx_core.specs.Held.{entry_of, entries};
 
@@ -17,7 +17,7 @@ use vrx_rtp::RtpView;
 
 /// The packet that a held one is: it was taken, so it reads.
 fn packet_of<'a>(settings: &Settings, held: &'a Held) -> RtpView<'a>
-    requires { is_form settings.now held.now.text ≡ false }
+    requires { is_aside settings.now held.now.text ≡ false }
     ensures packet { packet_in (entry_of held.now) ≡ Some (view result) }
     ensures long { 2 ≤ length result.payload.now }
 {
@@ -29,7 +29,7 @@ fn packet_of<'a>(settings: &Settings, held: &'a Held) -> RtpView<'a>
 
 /// What a held packet adds to its frame: its payload behind the descriptor's one octet (RFC 7741 4.2).
 fn body_of<'a>(settings: &Settings, held: &'a Held) -> &'a [u8]
-    requires { is_form settings.now held.now.text ≡ false }
+    requires { is_aside settings.now held.now.text ≡ false }
     ensures { result.now ≡ body_in (entry_of held.now) }
 {
     let [_, body @ ..] = packet_of(settings, held).payload else {
@@ -84,7 +84,7 @@ fn is_key(payload: &[u8]) -> bool
 
 /// Whether a held packet that begins a frame begins a keyframe.
 fn says_key(settings: &Settings, held: &Held) -> bool
-    requires { is_form settings.now held.now.text ≡ false }
+    requires { is_aside settings.now held.now.text ≡ false }
     ensures { result ≡ key_in (entry_of held.now) }
 {
     is_key(packet_of(settings, held).payload)

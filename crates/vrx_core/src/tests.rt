@@ -6,7 +6,10 @@ use std::test::Fail;
 const SETTINGS: Settings = Settings {
     media_ssrc: 10,
     media_type: 96,
+    red: None,
+    rtx: None,
     from_ssrc: 11,
+    interval: 100,
 };
 
 // A frame of one packet with this wire number and timestamp: marker 1, type 96, source 10; S = 1, PID = 0; two octets of
@@ -94,21 +97,27 @@ fn changed(at: usize, octet: u8) -> [u8; 15] {
 }
 
 #[test]
-fn other_forms_are_refused_and_only_counted(rt: HostRuntime) -> Result<(), Fail> {
+fn other_datagrams_are_refused_and_only_counted(rt: HostRuntime) -> Result<(), Fail> {
     let mut engine = Engine::new(rt.alloc(), SETTINGS)?;
-    for (moment, at, octet) in [
-        (7, 0, 0x90), // an extension
-        (6, 1, 0xe1), // type 97
-        (4, 11, 0x0b), // source 11
-        (3, 12, 0x90), // X = 1
+    for (moment, at, octet, reason) in [
+        (7, 0, 0x40, Reason::NotRtp), // version 1
+        (6, 0, 0x90, Reason::BadHeader), // an extension of four octets, of which three are there
+        (5, 0, 0xa0, Reason::BadHeader), // 170 octets of padding
+        (5, 0, 0x81, Reason::BadHeader), // a contributing source
+        (4, 11, 0x0b, Reason::OtherSsrc),
+        (4, 1, 0xe1, Reason::OtherType), // type 97
+        (4, 1, 0xbf, Reason::OtherType), // type 63, and 191 as an RTCP type
+        (3, 1, 0xc0, Reason::BadRtcp), // 192, of a length of 32,770 words
+        (3, 1, 0xdf, Reason::BadRtcp), // 223
+        (3, 12, 0x90, Reason::Form), // X = 1
     ] {
         let count = engine.events();
         let what = datagram(&mut engine, moment, &changed(at, octet))?;
-        assert_eq!(rt; what, What::Dropped(Reason::Form), "octet {at}");
+        assert_eq!(rt; what, What::Dropped(reason), "octet {at}");
         assert_eq!(rt; engine.events(), count + 1);
         assert_eq!(rt; engine.now(), 7);
     }
-    assert_eq!(rt; engine.events(), 4);
+    assert_eq!(rt; engine.events(), 10);
     // the first taken is in the cycle 1 still: no other number was taken
     assert_eq!(rt;
         datagram(&mut engine, 8, &keyframe(1))?,
@@ -119,12 +128,97 @@ fn other_forms_are_refused_and_only_counted(rt: HostRuntime) -> Result<(), Fail>
 }
 
 #[test]
+fn the_first_reason_is_told(rt: HostRuntime) -> Result<(), Fail> {
+    for (places, reason) in [
+        // version 1, and another SSRC
+        ([(0, 0x40), (11, 0x0b), (11, 0x0b)], Reason::NotRtp),
+        // a contributing source past the end, another SSRC and another type
+        ([(0, 0x81), (11, 0x0b), (1, 0xe1)], Reason::BadHeader),
+        // another SSRC, another type, and X = 1
+        ([(11, 0x0b), (1, 0xe1), (12, 0x90)], Reason::OtherSsrc),
+        // another type, and X = 1
+        ([(1, 0xe1), (12, 0x90), (12, 0x90)], Reason::OtherType),
+        // RTCP of version 1
+        ([(0, 0x40), (1, 0xc8), (11, 0x0b)], Reason::BadRtcp),
+    ] {
+        let mut bytes = keyframe(1);
+        for (at, octet) in places {
+            if let Some(place) = bytes.get_mut(at) {
+                *place = octet;
+            }
+        }
+        let mut engine = Engine::new(rt.alloc(), SETTINGS)?;
+        let what = datagram(&mut engine, 0, &bytes)?;
+        assert_eq!(rt; what, What::Dropped(reason), "{places:?}");
+    }
+    Ok(())
+}
+
+#[test]
+fn rtcp_is_told_and_only_counted(rt: HostRuntime) -> Result<(), Fail> {
+    let mut engine = Engine::new(rt.alloc(), SETTINGS)?;
+    // a receiver report without blocks, of two words (RFC 3550 6.4.2)
+    let report: [u8; 8] = [0x80, 0xc9, 0, 1, 0, 0, 0, 0x0a];
+    let handled = engine.datagram(5, &report)?;
+    assert_eq!(rt; handled.what, What::Rtcp);
+    assert_eq!(rt; handled.repaired.as_slice().len(), 0);
+    assert!(rt; handled.feedback.nack.is_none());
+    assert!(rt; handled.feedback.pli.is_none());
+    assert_eq!(rt; engine.events(), 1);
+    assert_eq!(rt; engine.now(), 5);
+    assert_eq!(rt;
+        datagram(&mut engine, 5, &report[..7])?,
+        What::Dropped(Reason::BadRtcp)
+    );
+    assert_eq!(rt;
+        datagram(&mut engine, 5, &report[..2])?,
+        What::Dropped(Reason::BadRtcp)
+    );
+    // one octet has no RTCP type
+    assert_eq!(rt;
+        datagram(&mut engine, 5, &report[..1])?,
+        What::Dropped(Reason::NotRtp)
+    );
+    assert_eq!(rt; engine.events(), 4);
+    Ok(())
+}
+
+#[test]
+fn sources_and_an_extension_are_taken(rt: HostRuntime) -> Result<(), Fail> {
+    // one contributing source, an extension of one word, and a keyframe's payload (RFC 3550 5.1, 5.3.1)
+    let packet: [u8; 27] = [
+        0x91, 0xe0, 0, 1, 0, 0, 0, 0, 0, 0, 0, 0x0a, 0, 0, 0, 0x0c, 0xbe, 0xde, 0, 1, 1, 2, 3, 4,
+        0x10, 0x00, 0xaa,
+    ];
+    let mut engine = Engine::new(rt.alloc(), SETTINGS)?;
+    assert_eq!(rt; datagram(&mut engine, 0, &packet)?, What::Media(65_537));
+    match pull(&mut engine, 0)? {
+        Pulled::NotReady => return Err("no frame")?,
+        Pulled::Frame(frame) => {
+            assert_eq!(rt; frame.bytes.as_slice(), [0x00, 0xaa].as_slice());
+        }
+    }
+    // padding of one octet isn't taken so far
+    let padded: [u8; 16] = [
+        0xa0, 0xe0, 0, 2, 0, 0, 0, 0, 0, 0, 0, 0x0a, 0x10, 0x00, 0xaa, 1,
+    ];
+    assert_eq!(rt;
+        datagram(&mut engine, 0, &padded)?,
+        What::Dropped(Reason::Form)
+    );
+    Ok(())
+}
+
+#[test]
 fn a_datagram_has_14_to_9216_octets(rt: HostRuntime) -> Result<(), Fail> {
     for (octets, want) in [
+        (0, What::Dropped(Reason::NotRtp)),
+        (11, What::Dropped(Reason::NotRtp)),
+        (12, What::Dropped(Reason::Form)),
         (13, What::Dropped(Reason::Form)),
         (14, What::Media(65_537)),
         (9_216, What::Media(65_537)),
-        (9_217, What::Dropped(Reason::Form)),
+        (9_217, What::Dropped(Reason::TooLong)),
     ] {
         let mut bytes = Vec::new(rt.alloc());
         bytes.extend_from_slice(&keyframe(1))?;
@@ -245,26 +339,124 @@ fn a_delta_frame_follows_the_frame_before(rt: HostRuntime) -> Result<(), Fail> {
 }
 
 #[test]
-fn settings_are_tested_in_order(rt: HostRuntime) {
-    for (media_type, media_ssrc, want) in [
-        (0, 10, None),
-        (63, 10, None),
-        (64, 10, Some(NewFault::BadType)),
-        (95, 10, Some(NewFault::BadType)),
-        (96, 10, None),
-        (127, 10, None),
-        (128, 10, Some(NewFault::BadType)),
-        (255, 10, Some(NewFault::BadType)),
-        (96, 11, Some(NewFault::SameSsrc)),
-        (64, 11, Some(NewFault::BadType)),
+fn a_type_is_bad_at_its_edges(rt: HostRuntime) {
+    for (media_type, want) in [
+        (0, None),
+        (63, None),
+        (64, Some(NewFault::BadType)),
+        (95, Some(NewFault::BadType)),
+        (96, None),
+        (127, None),
+        (128, Some(NewFault::BadType)),
+        (255, Some(NewFault::BadType)),
+    ] {
+        let fault = Engine::new(
+            rt.alloc(),
+            Settings {
+                media_type,
+                ..SETTINGS
+            },
+        )
+        .err();
+        assert_eq!(rt; fault, want, "type {media_type}");
+    }
+}
+
+// Settings with all that can be given: no two types and no two SSRCs are equal.
+fn with_all(red: Red, rtx: Rtx) -> Settings {
+    Settings {
+        red: Some(red),
+        rtx: Some(rtx),
+        ..SETTINGS
+    }
+}
+
+const RED: Red = Red {
+    red_type: 97,
+    fec_type: Some(98),
+};
+
+const RTX: Rtx = Rtx {
+    ssrc: 12,
+    media_rtx_type: 99,
+    red_rtx_type: Some(100),
+};
+
+fn red(red_type: u8, fec_type: u8) -> Red {
+    Red {
+        red_type,
+        fec_type: Some(fec_type),
+    }
+}
+
+fn rtx(ssrc: u32, media_rtx_type: u8, red_rtx_type: u8) -> Rtx {
+    Rtx {
+        ssrc,
+        media_rtx_type,
+        red_rtx_type: Some(red_rtx_type),
+    }
+}
+
+#[test]
+fn each_type_and_each_ssrc_is_tested(rt: HostRuntime) {
+    for (red, rtx, want) in [
+        (RED, RTX, NewFault::Later),
+        (red(64, 98), RTX, NewFault::BadType),
+        (red(97, 95), RTX, NewFault::BadType),
+        (RED, rtx(12, 128, 100), NewFault::BadType),
+        (RED, rtx(12, 99, 255), NewFault::BadType),
+        // equal to the media type, to one another, and at either end
+        (red(96, 98), RTX, NewFault::SameType),
+        (red(97, 97), RTX, NewFault::SameType),
+        (red(97, 99), RTX, NewFault::SameType),
+        (RED, rtx(12, 100, 100), NewFault::SameType),
+        (RED, rtx(12, 99, 96), NewFault::SameType),
+        (RED, rtx(10, 99, 100), NewFault::SameSsrc),
+        (RED, rtx(11, 99, 100), NewFault::SameSsrc),
+        // the first fault is told
+        (red(64, 64), rtx(10, 99, 100), NewFault::BadType),
+        (red(97, 97), rtx(10, 99, 100), NewFault::SameType),
+    ] {
+        let fault = Engine::new(rt.alloc(), with_all(red, rtx)).err();
+        assert_eq!(rt; fault, Some(want), "{red:?} and {rtx:?}");
+    }
+}
+
+#[test]
+fn other_settings_are_tested_in_order(rt: HostRuntime) {
+    let no_red = Rtx {
+        red_rtx_type: None,
+        ..RTX
+    };
+    for (red, rtx, from_ssrc, interval, want) in [
+        (None, None, 11, 100, None),
+        (None, None, 10, 100, Some(NewFault::SameSsrc)),
+        (None, Some(RTX), 10, 0, Some(NewFault::SameSsrc)),
+        (None, Some(RTX), 11, 0, Some(NewFault::RedMissing)),
+        (None, Some(no_red), 11, 0, Some(NewFault::BadInterval)),
+        (None, Some(no_red), 11, 1, Some(NewFault::Later)),
+        (Some(RED), None, 11, 1, Some(NewFault::Later)),
+        (
+            Some(RED),
+            Some(RTX),
+            11,
+            60_001,
+            Some(NewFault::BadInterval),
+        ),
+        (None, None, 11, 0, Some(NewFault::BadInterval)),
+        (None, None, 11, 1, None),
+        (None, None, 11, 60_000, None),
+        (None, None, 11, 60_001, Some(NewFault::BadInterval)),
     ] {
         let settings = Settings {
-            media_ssrc,
-            media_type,
-            from_ssrc: 11,
+            red,
+            rtx,
+            from_ssrc,
+            interval,
+            ..SETTINGS
         };
         let fault = Engine::new(rt.alloc(), settings).err();
-        assert_eq!(rt; fault, want, "type {media_type}, source {media_ssrc}");
+        assert_eq!(rt; fault, want, "{settings:?}");
     }
 }
 

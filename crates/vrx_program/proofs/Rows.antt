@@ -84,7 +84,7 @@ abbrev sender : Sender
 sender = record { first_wire = 1; frames = keyframe ∷ []; packets = Media 0 0 first_text ∷ Media 0 1 second_text ∷ Media 0 2 third_text ∷ [] }
 
 abbrev settings : Settings
-settings = record { media_ssrc = 10; media_type = 96; from_ssrc = 11 }
+settings = record { media_ssrc = 10; media_type = 96; red = None; rtx = None; from_ssrc = 11; interval = 100 }
 
 -- what the packets carry
 abbrev first_part : Carried
@@ -112,7 +112,7 @@ third_part = record {
 first_is : IsPart settings vp8 sender 0 keyframe 3 0 0 first_part
 first_is = record {
   sent = refl;
-  media = record { size = omega arith; reads = refl; no_padding = refl; number = refl; type = refl; source = refl; payload = λ e. cc; part_reads = refl; form = refl };
+  media = record { size = omega arith; reads = refl; no_padding = refl; number = refl; type = refl; source = refl; payload = λ e. cc; part_reads = refl; no_rtcp = λ r. absurd (omega (arith, r.at_most)); long = omega arith; no_extension = refl };
   timestamp = refl;
   marker = (λ e. cc, λ e. absurd (omega arith));
   start = refl;
@@ -122,7 +122,7 @@ first_is = record {
 second_is : IsPart settings vp8 sender 0 keyframe 3 1 1 second_part
 second_is = record {
   sent = refl;
-  media = record { size = omega arith; reads = refl; no_padding = refl; number = refl; type = refl; source = refl; payload = λ e. cc; part_reads = refl; form = refl };
+  media = record { size = omega arith; reads = refl; no_padding = refl; number = refl; type = refl; source = refl; payload = λ e. cc; part_reads = refl; no_rtcp = λ r. absurd (omega (arith, r.at_most)); long = omega arith; no_extension = refl };
   timestamp = refl;
   marker = (λ e. cc, λ e. absurd (omega arith));
   start = refl;
@@ -132,7 +132,7 @@ second_is = record {
 third_is : IsPart settings vp8 sender 0 keyframe 3 2 2 third_part
 third_is = record {
   sent = refl;
-  media = record { size = omega arith; reads = refl; no_padding = refl; number = refl; type = refl; source = refl; payload = λ e. cc; part_reads = refl; form = refl };
+  media = record { size = omega arith; reads = refl; no_padding = refl; number = refl; type = refl; source = refl; payload = λ e. cc; part_reads = refl; no_rtcp = λ r. absurd (omega (arith, r.at_most)); long = omega arith; no_extension = refl };
   timestamp = refl;
   marker = (λ e. refl, λ e. refl);
   start = refl;

@@ -1,36 +1,23 @@
 -- When the engine takes the settings that a line tells.
-use Rattle.std.proofs.Common.{◌≡◌, ℕ, ◌<◌, ◌≤◌, true, false, ◌&&◌, cond, List, length, ◌∙◌, ap, ◌⊎◌, inl, inr}
-use Rattle.std.specs.Prelude.{Some, None, nat_lt, nat_le}
-use Rattle.std.proofs.lemmas.Bool.{le-ltb, lt-ltb, le-leb, lt-leb, eq-eqb, ne_eqb, or_left, or_right, or_from, and_from, and_left, and_right, cases_lt}
-use Rattle.vrx_core.specs.StandsFor.{IsBadType}
+use Rattle.std.proofs.Common.{◌≡◌, ◌≢◌, ◌⊎◌, ℕ, ◌≤◌, true, false, cond, List, length, sym, ◌∙◌, ap, inl, inr}
+use Rattle.std.specs.Prelude.{Some, None, is_some, nat_lt}
+use Rattle.std.proofs.lemmas.Bool.{le-ltb}
+use Rattle.vrx_core.specs.SettingsFault.{fault_of}
 use Rattle.vrx_core.specs.declared.settings.Settings.{Settings}
+use Rattle.vrx_core.specs.declared.settings.NewFault.{NewFault}
+use Rattle.vrx_core.specs.declared.settings.NewFault.TheVariants.{NoMemory}
 use Rattle.vrx_text.specs.Line.{settings_in}
 use Rattle.vrx_text.specs.Reading.{longest_line}
 use Rattle.vrx_program.specs.Replay.{is_refused, accepted, settings_of}
 
--- a bad type is refused
-pub refused-type : (s : Settings) → IsBadType s.media_type → is_refused s ≡ true
-refused-type s (inl between) = or_left _ _ (or_left _ _ (and_from _ _ (le-leb 64 s.media_type between.0) (le-leb s.media_type 95 between.1)))
-refused-type s (inr above) = or_left _ _ (or_right _ _ (lt-ltb 127 s.media_type above))
+-- settings with a fault are refused: one that isn't want of memory is theirs
+pub refused-fault : (s : Settings) (fault other : NewFault) → fault ≡ other → other ≢ NoMemory → (fault ≡ NoMemory) ⊎ (fault_of s ≡ Some fault) → is_refused s ≡ true
+refused-fault s fault other same apart (inl memory) = absurd (apart (sym same ∙ memory))
+refused-fault s fault other same apart (inr is) = ap is_some is
 
--- equal SSRCs are refused
-pub refused-same : (s : Settings) → s.media_ssrc ≡ s.from_ssrc → is_refused s ≡ true
-refused-same s same = or_right _ _ (eq-eqb s.media_ssrc s.from_ssrc same)
-
--- and nothing else is
-pub taken-settings : (s : Settings) → (IsBadType s.media_type → ⊥) → (s.media_ssrc ≡ s.from_ssrc → ⊥) → is_refused s ≡ false
-taken-settings s right apart = or_from _ _ (or_from _ _ between (le-ltb 127 s.media_type (above (cases_lt 127 s.media_type)))) (ne_eqb s.media_ssrc s.from_ssrc apart) where
-  above : (127 < s.media_type) ⊎ (s.media_type ≤ 127) → s.media_type ≤ 127
-  above (inl more) = absurd (right (inr more))
-  above (inr upto) = upto
-
-  parts : (s.media_type < 64) ⊎ (64 ≤ s.media_type) → (95 < s.media_type) ⊎ (s.media_type ≤ 95) → (nat_le 64 s.media_type && nat_le s.media_type 95) ≡ false
-  parts (inl less) other = and_left _ _ (lt-leb 64 s.media_type less)
-  parts (inr from) (inl more) = and_right _ _ (lt-leb s.media_type 95 more)
-  parts (inr from) (inr upto) = absurd (right (inl (from, upto)))
-
-  between : (nat_le 64 s.media_type && nat_le s.media_type 95) ≡ false
-  between = parts (cases_lt s.media_type 64) (cases_lt 95 s.media_type)
+-- and no others are
+pub refused-none : (s : Settings) → fault_of s ≡ None → is_refused s ≡ false
+refused-none s is = ap is_some is
 
 module _ (line : List ℕ) (short : length line ≤ longest_line) where
   -- what stands behind the test of the length

@@ -1,6 +1,7 @@
 -- What a replay of a capture gives: a status and a text.
-use Rattle.std.specs.Prelude.{ℕ, Bool, ◌&&◌, ◌||◌, ◌==◌, nat_lt, nat_le, if◌then◌else◌, List, [], ◌∷◌, ◌++◌, length, Option, Some, None}
+use Rattle.std.specs.Prelude.{ℕ, Bool, nat_lt, if◌then◌else◌, List, [], ◌∷◌, ◌++◌, length, Option, Some, None, is_some}
 use Rattle.vrx_vp8.specs.Descriptor.{vp8}
+use Rattle.vrx_core.specs.SettingsFault.{fault_of}
 use Rattle.vrx_core.specs.declared.settings.Settings.{Settings}
 use Rattle.vrx_core.specs.declared.event.Event.{Event}
 use Rattle.vrx_text.specs.Line.{lines_of, settings_in}
@@ -13,9 +14,9 @@ use Rattle.vrx_program.specs.declared.status.Status.TheVariants.{Done, BadCaptur
 abbrev pub most_events : ℕ
 most_events = 1048576
 
--- the engine refuses settings: the payload type is 64 to 95 or above 127 (RFC 5761 4), or two SSRCs are equal
+-- the engine refuses settings: they have a fault
 abbrev pub is_refused : Settings → Bool
-is_refused settings = (nat_le 64 settings.media_type && nat_le settings.media_type 95) || nat_lt 127 settings.media_type || (settings.media_ssrc == settings.from_ssrc)
+is_refused settings = is_some (fault_of settings)
 
 -- a call, as a capture tells it: its settings, and what its lines give
 pub record Call : Type 0 where

@@ -177,7 +177,11 @@ fn opened(alloc: Global, line: &[u8]) -> Result<Option<Engine>, NoMemory>
         Ok(engine) => Ok(Some(engine)),
         Err(NewFault::NoMemory) => Err(NoMemory),
         Err(NewFault::BadType) => Ok(None),
+        Err(NewFault::SameType) => Ok(None),
         Err(NewFault::SameSsrc) => Ok(None),
+        Err(NewFault::RedMissing) => Ok(None),
+        Err(NewFault::BadInterval) => Ok(None),
+        Err(NewFault::Later) => Ok(None),
     }
 }
 

@@ -598,7 +598,7 @@ fn a_datagram_has_at_most_9216_octets(rt: HostRuntime) -> Result<(), Fail> {
         "d 0 80e00001000000000000000a1000{octets}aa\nd 0 80e00001000000000000000a1000{octets}\np 0\n"
     )?;
     let transcript = format!(in rt.alloc();
-        "2 drop Form\n3 media 65537\n4 frame 65537 65537 key 0 00{octets}\n"
+        "2 drop TooLong\n3 media 65537\n4 frame 65537 65537 key 0 00{octets}\n"
     )?;
     let (status, text) = long_outcome(rt.alloc(), lines.as_str())?;
     assert_eq!(rt; status, Status::Done);

@@ -14,7 +14,7 @@ use Rattle.hex.specs.declared.error.FromHexError.{FromHexError}
 use Rattle.hex.proofs.OnLiterals.{hex_on_literals}
 use Rattle.vrx_core.specs.declared.settings.Settings.{Settings}
 use Rattle.vrx_core.specs.declared.event.Event.TheVariants.{Datagram, Pull}
-use Rattle.vrx_text.specs.Line.{◌>>=◌, behind, word, behind_word, number_in, latest_moment, some_octets, octets_in, pull_in, datagram_in, ssrc_in, settings_in}
+use Rattle.vrx_text.specs.Line.{usual_interval, ◌>>=◌, behind, word, behind_word, number_in, latest_moment, some_octets, octets_in, pull_in, datagram_in, ssrc_in, settings_in}
 use Rattle.vrx_text.specs.IsLine.{IsDatagramLine, IsSettingsLine}
 use Rattle.vrx_text.proofs.NumberLemmas.{number_mean, decimal_digits}
 use Rattle.vrx_text.proofs.SsrcLemmas.{encoded_plain, octets_fit, ssrc_in-read, ssrc_in-write}
@@ -201,12 +201,19 @@ settings_spelled line media type from a n b whole media_word media_behind type_w
     ∙ ap (λ (octets : List ℕ). a ++ 32 ∷ (codes "pt=" ++ (n ++ 32 ∷ (codes "from=" ++ octets)))) last
     ) ∙ sym (settings_text a n b)
 
-settings_made : (line media type from : List ℕ) (a n b : ℕ) → line ≡ codes "vrx 1 codec=vp8 ssrc=" ++ media → (word media ≡ ssrc_text a) × (a < 2 ^ 32) → behind_word media ≡ codes "pt=" ++ type → (word type ≡ decimal n) × (n ≤ 255) → behind_word type ≡ codes "from=" ++ from → (from ≡ ssrc_text b) × (b < 2 ^ 32) → IsSettingsLine line (record { media_ssrc = a; media_type = n; from_ssrc = b })
+-- the settings of a line that tells these
+abbrev told : (media_ssrc media_type from_ssrc : ℕ) → Settings
+told media_ssrc media_type from_ssrc = record { media_ssrc = media_ssrc; media_type = media_type; red = None; rtx = None; from_ssrc = from_ssrc; interval = usual_interval }
+
+settings_made : (line media type from : List ℕ) (a n b : ℕ) → line ≡ codes "vrx 1 codec=vp8 ssrc=" ++ media → (word media ≡ ssrc_text a) × (a < 2 ^ 32) → behind_word media ≡ codes "pt=" ++ type → (word type ≡ decimal n) × (n ≤ 255) → behind_word type ≡ codes "from=" ++ from → (from ≡ ssrc_text b) × (b < 2 ^ 32) → IsSettingsLine line (told a n b)
 settings_made line media type from a n b whole media_word media_behind type_word type_behind last = record {
   spelled = settings_spelled line media type from (ssrc_text a) (decimal n) (ssrc_text b) whole media_word.0 media_behind type_word.0 type_behind last.0;
   type = type_word.1;
   media = media_word.1;
   from = last.1;
+  no_red = refl;
+  no_rtx = refl;
+  interval = refl;
 }
 
 settings_of : Settings → Option Settings → Settings
@@ -226,9 +233,16 @@ settings_in-read line s h =
     let media_type = bind_some (number_in 255 (word type.0)) _ s type.2 in
     let from = bind_some (behind (codes "from=") (behind_word type.0)) _ s media_type.2 in
     let from_ssrc = bind_some (ssrc_in from.0) _ s from.2 in
-    let same : record { media_ssrc = media_ssrc.0; media_type = media_type.0; from_ssrc = from_ssrc.0 } ≡ s = same_settings _ s from_ssrc.2 in
-    let made : IsSettingsLine line (record { media_ssrc = media_ssrc.0; media_type = media_type.0; from_ssrc = from_ssrc.0 }) = settings_made line media.0 type.0 from.0 media_ssrc.0 media_type.0 from_ssrc.0 (behind-read _ line media.0 media.1) (ssrc_in-read (word media.0) media_ssrc.0 media_ssrc.1) (behind-read _ (behind_word media.0) type.0 type.1) ((number_mean 255 media_type.0 (word type.0) (omega arith)).0 media_type.1) (behind-read _ (behind_word type.0) from.0 from.1) (ssrc_in-read from.0 from_ssrc.0 from_ssrc.1) in
+    let same : told media_ssrc.0 media_type.0 from_ssrc.0 ≡ s = same_settings _ s from_ssrc.2 in
+    let made : IsSettingsLine line (told media_ssrc.0 media_type.0 from_ssrc.0) = settings_made line media.0 type.0 from.0 media_ssrc.0 media_type.0 from_ssrc.0 (behind-read _ line media.0 media.1) (ssrc_in-read (word media.0) media_ssrc.0 media_ssrc.1) (behind-read _ (behind_word media.0) type.0 type.1) ((number_mean 255 media_type.0 (word type.0) (omega arith)).0 media_type.1) (behind-read _ (behind_word type.0) from.0 from.1) (ssrc_in-read from.0 from_ssrc.0 from_ssrc.1) in
     subst (λ (t : Settings). IsSettingsLine line t) same made
+
+-- settings without RED, RTX and another interval are those that a line tells
+same_told : (s : Settings) → s.red ≡ None → s.rtx ≡ None → s.interval ≡ usual_interval → Some (told s.media_ssrc s.media_type s.from_ssrc) ≡ Some s
+same_told s no_red no_rtx interval =
+    ap (λ x. Some (record s { red = x; rtx = None; interval = usual_interval })) (sym no_red)
+    ∙ ap (λ x. Some (record s { rtx = x; interval = usual_interval })) (sym no_rtx)
+    ∙ ap (λ x. Some (record s { interval = x })) (sym interval)
 
 settings_in-write : (line : List ℕ) (s : Settings) → IsSettingsLine line s → settings_in line ≡ Some s
 unfolding settings_in
@@ -250,7 +264,7 @@ settings_in-write line s is =
       type_parts.1,
       behind-write (codes "from=") (ssrc_text s.from_ssrc),
       ssrc_in-write s.from_ssrc is.from,
-    ) refl
+    ) (same_told s is.no_red is.no_rtx is.interval)
 
 pub settings_mean : (line : List ℕ) (s : Settings) → (settings_in line ≡ Some s) ↔ IsSettingsLine line s
 settings_mean line s = (settings_in-read line s, settings_in-write line s)

@@ -11,7 +11,7 @@ pub three_lines : lines_of (codes "a" ++ line_feed ++ line_feed ++ codes "bc") �
 unfolding text_on_literals
 three_lines = refl
 
-pub settings : settings_in (codes "vrx 1 codec=vp8 ssrc=0000000a pt=96 from=0000000b") ≡ Some (record { media_ssrc = 10; media_type = 96; from_ssrc = 11 })
+pub settings : settings_in (codes "vrx 1 codec=vp8 ssrc=0000000a pt=96 from=0000000b") ≡ Some (record { media_ssrc = 10; media_type = 96; red = None; rtx = None; from_ssrc = 11; interval = 100 })
 unfolding text_on_literals
 settings = refl
 

@@ -65,7 +65,12 @@ is_upper octet = nat_le 65 octet && nat_le octet 90
 unfoldable pub ssrc_in : List ℕ → Option ℕ
 ssrc_in digits = if list_any is_upper digits then None else option_map (from_be_bytes w32) (result_ok (decode_sized digits 4))
 
--- the settings line: vrx 1 codec=vp8 ssrc=H pt=N from=H, with an SSRC for each H and a number of at most 255 for N
+-- the interval of requests where the line tells none, in milliseconds
+abbrev pub usual_interval : ℕ
+usual_interval = 100
+
+-- the settings line: vrx 1 codec=vp8 ssrc=H pt=N from=H, with an SSRC for each H and a number of at most 255 for N. It
+-- tells neither RED nor RTX, nor an interval
 unfoldable pub settings_in : List ℕ → Option Settings
 settings_in line = do
   media ← behind (codes "vrx 1 codec=vp8 ssrc=") line
@@ -74,7 +79,7 @@ settings_in line = do
   media_type ← number_in 255 (word type)
   from ← behind (codes "from=") (behind_word type)
   from_ssrc ← ssrc_in from
-  Some (record { media_ssrc = media_ssrc; media_type = media_type; from_ssrc = from_ssrc })
+  Some (record { media_ssrc = media_ssrc; media_type = media_type; red = None; rtx = None; from_ssrc = from_ssrc; interval = usual_interval })
 
 -- the greatest moment that a line tells: twelve digits
 abbrev pub latest_moment : ℕ

@@ -7,9 +7,9 @@ use Rattle.vrx_core.specs.Machine.{Reply, ToDatagram, ToPull, reply}
 use Rattle.vrx_core.specs.declared.settings.Settings.{Settings}
 use Rattle.vrx_core.specs.declared.event.Event.{Event}
 use Rattle.vrx_core.specs.declared.reply.Reason.{Reason}
-use Rattle.vrx_core.specs.declared.reply.Reason.TheVariants.{Form, TooFar, TooOld, Repeat}
+use Rattle.vrx_core.specs.declared.reply.Reason.TheVariants.{TooLong, BadRtcp, NotRtp, BadHeader, OtherSsrc, OtherType, NoApt, RtxEmpty, MoreBlocks, BadRed, BadFec, BadPart, TooFar, TooOld, Dead, Repeat, Form}
 use Rattle.vrx_core.specs.declared.reply.What.{What}
-use Rattle.vrx_core.specs.declared.reply.What.TheVariants.{Media, Dropped}
+use Rattle.vrx_core.specs.declared.reply.What.TheVariants.{Media, Fec, Empty, Rtcp, Dropped}
 use Rattle.vrx_core.specs.declared.reply.Frame.{Frame}
 use Rattle.vrx_core.specs.declared.reply.Pulled.{Pulled}
 use Rattle.vrx_core.specs.declared.reply.Pulled.TheVariants as pulls
@@ -17,21 +17,37 @@ use Rattle.vrx_core.specs.declared.reply.Pulled.TheVariants as pulls
 abbrev pub line_feed : List ℕ
 line_feed = 10 ∷ []
 
--- the word for a reason
+-- the word for a reason; BadPart has the codec's number of the fault behind it
 abbrev pub reason_text : Reason → List ℕ
-reason_text Form = codes "Form"
+reason_text TooLong = codes "TooLong"
+reason_text BadRtcp = codes "BadRtcp"
+reason_text NotRtp = codes "NotRtp"
+reason_text BadHeader = codes "BadHeader"
+reason_text OtherSsrc = codes "OtherSsrc"
+reason_text OtherType = codes "OtherType"
+reason_text NoApt = codes "NoApt"
+reason_text RtxEmpty = codes "RtxEmpty"
+reason_text MoreBlocks = codes "MoreBlocks"
+reason_text BadRed = codes "BadRed"
+reason_text BadFec = codes "BadFec"
+reason_text (BadPart code) = codes "BadPart " ++ decimal code
 reason_text TooFar = codes "TooFar"
 reason_text TooOld = codes "TooOld"
+reason_text Dead = codes "Dead"
 reason_text Repeat = codes "Repeat"
+reason_text Form = codes "Form"
 
 -- the word for a kind of frame
 abbrev pub kind_text : Bool → List ℕ
 kind_text true = codes "key"
 kind_text false = codes "delta"
 
--- K media N, or K drop REASON
+-- K media N, K fec N, K empty N, K rtcp, or K drop REASON
 abbrev pub what_text : ℕ → What → List ℕ
 what_text k (Media n) = decimal k ++ codes " media " ++ decimal n ++ line_feed
+what_text k (Fec n) = decimal k ++ codes " fec " ++ decimal n ++ line_feed
+what_text k (Empty n) = decimal k ++ codes " empty " ++ decimal n ++ line_feed
+what_text k Rtcp = decimal k ++ codes " rtcp" ++ line_feed
 what_text k (Dropped reason) = decimal k ++ codes " drop " ++ reason_text reason ++ line_feed
 
 -- FIRST LAST KIND TS HEX

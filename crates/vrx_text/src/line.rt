@@ -13,6 +13,9 @@ use vrx_num::NoMemory;
 /// The greatest moment that a line tells: twelve digits.
 const LATEST_MOMENT: u64 = 999_999_999_999;
 
+/// The interval of requests where the settings line tells none, in milliseconds.
+const USUAL_INTERVAL: u32 = 100;
+
 /// What a line behind the settings line says.
 #[derive(Debug, Drop)]
 pub enum LineKind {
@@ -145,7 +148,10 @@ pub fn read_settings(line: &[u8]) -> Option<Settings>
     Some(Settings {
         media_ssrc,
         media_type: media_type as u8,
+        red: None,
+        rtx: None,
         from_ssrc,
+        interval: USUAL_INTERVAL,
     })
 }
 

@@ -9,6 +9,8 @@ use std::alloc::{AllocError, Global};
 use std::test::Fail;
 use vrx_core::{Frame, FrameBytes, Handled, Pulled, Reason, Settings, What};
 use vrx_io::{MemSource, Source};
+use vrx_num::Numbers;
+use vrx_rtcp::Feedback;
 
 #[test]
 fn reads_settings(rt: HostRuntime) {
@@ -20,7 +22,10 @@ fn reads_settings(rt: HostRuntime) {
         let want = Settings {
             media_ssrc: 0x00c0_ffee,
             media_type,
+            red: None,
+            rtx: None,
             from_ssrc: 0x1234_5678,
+            interval: 100,
         };
         assert_eq!(rt; read_settings(line.as_bytes()), Some(want), "{line}");
     }
@@ -98,16 +103,51 @@ fn reads_lines(rt: HostRuntime) -> Result<(), Fail> {
     Ok(())
 }
 
+// A reply to a datagram of which this became.
+fn handled(alloc: Global, what: What) -> Handled {
+    Handled {
+        what,
+        repaired: Numbers::new(alloc),
+        feedback: Feedback {
+            nack: None,
+            pli: None,
+        },
+    }
+}
+
 #[test]
 fn writes_the_line_of_each_reply(rt: HostRuntime) -> Result<(), Fail> {
     for (what, want) in [
         (What::Media(65_537), "2 media 65537\n"),
-        (What::Dropped(Reason::Form), "2 drop Form\n"),
+        (What::Fec(65_538), "2 fec 65538\n"),
+        (What::Empty(65_539), "2 empty 65539\n"),
+        (What::Rtcp, "2 rtcp\n"),
+        (What::Dropped(Reason::TooLong), "2 drop TooLong\n"),
+        (What::Dropped(Reason::BadRtcp), "2 drop BadRtcp\n"),
+        (What::Dropped(Reason::NotRtp), "2 drop NotRtp\n"),
+        (What::Dropped(Reason::BadHeader), "2 drop BadHeader\n"),
+        (What::Dropped(Reason::OtherSsrc), "2 drop OtherSsrc\n"),
+        (What::Dropped(Reason::OtherType), "2 drop OtherType\n"),
+        (What::Dropped(Reason::NoApt), "2 drop NoApt\n"),
+        (What::Dropped(Reason::RtxEmpty), "2 drop RtxEmpty\n"),
+        (What::Dropped(Reason::MoreBlocks), "2 drop MoreBlocks\n"),
+        (What::Dropped(Reason::BadRed), "2 drop BadRed\n"),
+        (What::Dropped(Reason::BadFec), "2 drop BadFec\n"),
+        (
+            What::Dropped(Reason::BadPart { code: 0 }),
+            "2 drop BadPart 0\n",
+        ),
+        (
+            What::Dropped(Reason::BadPart { code: 255 }),
+            "2 drop BadPart 255\n",
+        ),
         (What::Dropped(Reason::TooFar), "2 drop TooFar\n"),
         (What::Dropped(Reason::TooOld), "2 drop TooOld\n"),
+        (What::Dropped(Reason::Dead), "2 drop Dead\n"),
         (What::Dropped(Reason::Repeat), "2 drop Repeat\n"),
+        (What::Dropped(Reason::Form), "2 drop Form\n"),
     ] {
-        let text = text_of_handled(rt.alloc(), 2, &Handled { what })?;
+        let text = text_of_handled(rt.alloc(), 2, &handled(rt.alloc(), what))?;
         assert_eq!(rt; text.as_slice(), want.as_bytes());
     }
     for (key, want) in [

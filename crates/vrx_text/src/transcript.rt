@@ -11,18 +11,6 @@ use std::alloc::Global;
 use vrx_core::{Frame, Handled, Pulled, Reason, What};
 use vrx_num::NoMemory;
 
-/// The reason's word.
-fn reason_text(reason: Reason) -> &'static str
-    ensures { result.now ≡ reason_text reason }
-{
-    match reason {
-        Reason::Form => "Form",
-        Reason::TooFar => "TooFar",
-        Reason::TooOld => "TooOld",
-        Reason::Repeat => "Repeat",
-    }
-}
-
 /// Whether a frame is a keyframe, in a word.
 fn kind_text(key: bool) -> &'static str
     ensures { result.now ≡ kind_text key }
@@ -37,13 +25,65 @@ fn media_text(alloc: Global, k: u32, n: u64) -> Result<Vec<u8>, NoMemory>
     Ok(format!(in alloc; "{k} media {n}\n")?.into_bytes())
 }
 
+/// The line of a datagram that was taken as FEC, under this number.
+fn fec_text(alloc: Global, k: u32, n: u64) -> Result<Vec<u8>, NoMemory>
+    ensures { IfOk result (λ text. text.items ≡ decimal k ++ codes " fec " ++ decimal n ++ line_feed) }
+{
+    Ok(format!(in alloc; "{k} fec {n}\n")?.into_bytes())
+}
+
+/// The line of a datagram that was taken under this number, and has no payload.
+fn empty_text(alloc: Global, k: u32, n: u64) -> Result<Vec<u8>, NoMemory>
+    ensures { IfOk result (λ text. text.items ≡ decimal k ++ codes " empty " ++ decimal n ++ line_feed) }
+{
+    Ok(format!(in alloc; "{k} empty {n}\n")?.into_bytes())
+}
+
+/// The line of a datagram that is RTCP.
+fn rtcp_text(alloc: Global, k: u32) -> Result<Vec<u8>, NoMemory>
+    ensures { IfOk result (λ text. text.items ≡ decimal k ++ codes " rtcp" ++ line_feed) }
+{
+    Ok(format!(in alloc; "{k} rtcp\n")?.into_bytes())
+}
+
+/// The line of a datagram that was refused, with the reason's word.
+fn drop_text(alloc: Global, k: u32, word: &str) -> Result<Vec<u8>, NoMemory>
+    ensures { IfOk result (λ text. text.items ≡ decimal k ++ codes " drop " ++ word.now ++ line_feed) }
+{
+    Ok(format!(in alloc; "{k} drop {word}\n")?.into_bytes())
+}
+
+/// The line of a datagram whose payload is no part of a frame, with the codec's number of the fault.
+fn bad_part_text(alloc: Global, k: u32, code: u8) -> Result<Vec<u8>, NoMemory>
+    ensures { IfOk result (λ text. text.items ≡ decimal k ++ codes " drop BadPart " ++ decimal code ++ line_feed) }
+{
+    Ok(format!(in alloc; "{k} drop BadPart {code}\n")?.into_bytes())
+}
+
 /// The line of a datagram that was refused, for this reason.
 fn dropped_text(alloc: Global, k: u32, reason: Reason) -> Result<Vec<u8>, NoMemory>
     ensures { IfOk result (λ text.
         text.items ≡ decimal k ++ codes " drop " ++ reason_text reason ++ line_feed) }
 {
-    let reason = reason_text(reason);
-    Ok(format!(in alloc; "{k} drop {reason}\n")?.into_bytes())
+    match reason {
+        Reason::TooLong => drop_text(alloc, k, "TooLong"),
+        Reason::BadRtcp => drop_text(alloc, k, "BadRtcp"),
+        Reason::NotRtp => drop_text(alloc, k, "NotRtp"),
+        Reason::BadHeader => drop_text(alloc, k, "BadHeader"),
+        Reason::OtherSsrc => drop_text(alloc, k, "OtherSsrc"),
+        Reason::OtherType => drop_text(alloc, k, "OtherType"),
+        Reason::NoApt => drop_text(alloc, k, "NoApt"),
+        Reason::RtxEmpty => drop_text(alloc, k, "RtxEmpty"),
+        Reason::MoreBlocks => drop_text(alloc, k, "MoreBlocks"),
+        Reason::BadRed => drop_text(alloc, k, "BadRed"),
+        Reason::BadFec => drop_text(alloc, k, "BadFec"),
+        Reason::BadPart { code } => bad_part_text(alloc, k, code),
+        Reason::TooFar => drop_text(alloc, k, "TooFar"),
+        Reason::TooOld => drop_text(alloc, k, "TooOld"),
+        Reason::Dead => drop_text(alloc, k, "Dead"),
+        Reason::Repeat => drop_text(alloc, k, "Repeat"),
+        Reason::Form => drop_text(alloc, k, "Form"),
+    }
 }
 
 /// The line of a pull that no frame was ready for.
@@ -91,6 +131,9 @@ pub fn text_of_handled(alloc: Global, k: u32, reply: &Handled) -> Result<Vec<u8>
 {
     match reply.what {
         What::Media(n) => media_text(alloc, k, n),
+        What::Fec(n) => fec_text(alloc, k, n),
+        What::Empty(n) => empty_text(alloc, k, n),
+        What::Rtcp => rtcp_text(alloc, k),
         What::Dropped(reason) => dropped_text(alloc, k, reason),
     }
 }

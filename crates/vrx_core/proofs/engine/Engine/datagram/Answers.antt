@@ -1,12 +1,18 @@
-use Rattle.std.proofs.Common.{refl}
+use Rattle.std.proofs.Common.{ℕ, List, refl, ap, ◌∙◌}
+use Rattle.vrx_core.specs.Machine.{Reply, ToDatagram, no_feedback}
+use Rattle.vrx_core.specs.declared.reply.What.{What}
 use Rattle.vrx_core.proofs.StandsLemmas.{datagram-stands, datagram-reply, datagram-refused, datagram-settings, datagram-counts}
 use Rattle.vrx_core.proofs.engine.Engine.datagram.Goals as goal
 
 pub returns-clause-stands : goal.returns-clause-stands
 returns-clause-stands c h = datagram-stands c.args.self.now c.handle.new.self c.args.moment c.args.bytes.now c.in_ok-what.what h c.in_ok-what.ensures.value
 
+-- the reply with these numbers as repaired
+abbrev replied : What → List ℕ → Reply
+replied what repaired = ToDatagram (record { what = what; repaired = repaired; feedback = no_feedback })
+
 pub returns-clause-reply : goal.returns-clause-reply
-returns-clause-reply c h = datagram-reply c.args.self.now c.handle.new.self c.args.moment c.args.bytes.now c.in_ok-what.what h c.in_ok-what.ensures.value
+returns-clause-reply c h stands = ap (replied c.in_ok-what.what) c.new.ensures ∙ datagram-reply c.args.self.now c.handle.new.self c.args.moment c.args.bytes.now c.in_ok-what.what h c.in_ok-what.ensures.value stands
 
 pub returns-clause-settings : goal.returns-clause-settings
 returns-clause-settings c = datagram-settings c.args.self.now c.handle.new.self c.args.moment c.args.bytes.now c.in_ok-what.what c.in_ok-what.ensures.value
