@@ -1,0 +1,4 @@
+pub mod AccessUnitLemmas
+pub mod PayloadLemmas
+pub mod UnitsLemmas
+pub mod WrittenLemmas

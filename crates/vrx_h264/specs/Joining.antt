@@ -1,0 +1,54 @@
+-- How H.264's parts join, one after the other.
+use Rattle.std.specs.Prelude.{ℕ, ◌+◌, ◌==◌, if◌then◌else◌, List, [], ◌∷◌, length, Option, None, Some, Result, Ok, Err}
+use Rattle.std.specs.List.{flat_map}
+use Rattle.vrx_codec.specs.Joining.{Joining}
+use Rattle.vrx_codec.specs.declared.fault.JoinFault.{JoinFault}
+use Rattle.vrx_codec.specs.declared.join.Join.{Join}
+use Rattle.vrx_h264.specs.Nal.{kind}
+use Rattle.vrx_h264.specs.Payload.{begins, ends, first_octet, Piece, Whole, Cut, pieces}
+use Rattle.vrx_h264.specs.AccessUnit.{behind_code, no_start, no_end, mixed}
+
+-- the first octet of the unit that is begun behind a piece, where one is: from that before the piece
+abbrev pub begun_behind : Option ℕ → Piece → Result (Option ℕ) JoinFault
+begun_behind None (Whole unit) = Ok None
+begun_behind (Some begun) (Whole unit) = Err no_end
+begun_behind None (Cut f) = if begins f then Ok (Some (first_octet f)) else Err no_start
+begun_behind (Some begun) (Cut f) =
+    if begins f then Err no_end
+    else if kind begun == kind f.header then Ok (if ends f then None else Some begun)
+    else Err mixed
+
+-- what comes next, where there was no fault
+abbrev pub begun_then : Result (Option ℕ) JoinFault → (Option ℕ → Result (Option ℕ) JoinFault) → Result (Option ℕ) JoinFault
+begun_then (Ok begun) next = next begun
+begun_then (Err fault) next = Err fault
+
+-- the same behind pieces
+abbrev pub begun_behind_all : Option ℕ → List Piece → Result (Option ℕ) JoinFault
+begun_behind_all begun [] = Ok begun
+begun_behind_all begun (piece ∷ later) = begun_then (begun_behind begun piece) (λ next. begun_behind_all next later)
+
+-- the octets that a piece adds: its unit behind a start code, or the octets of a fragment
+abbrev pub added_by : Piece → List ℕ
+added_by (Whole unit) = behind_code unit
+added_by (Cut f) = if begins f then behind_code (first_octet f ∷ f.octets) else f.octets
+
+abbrev pub added : List ℕ → List ℕ
+added payload = flat_map added_by (pieces payload)
+
+-- the state with so many octets, where there was no fault
+abbrev pub state_with : ℕ → Result (Option ℕ) JoinFault → Result Join JoinFault
+state_with octets (Ok begun) = Ok (record { unit = begun; octets = octets })
+state_with octets (Err fault) = Err fault
+
+-- no unit is begun at the end
+abbrev pub end_of : Option ℕ → ℕ → Result ℕ JoinFault
+end_of None octets = Ok octets
+end_of (Some begun) octets = Err no_end
+
+abbrev pub joining : Joining
+joining = record {
+  step = λ state part. state_with (state.octets + length (added part.body)) (begun_behind_all state.unit (pieces part.body));
+  end = λ state. end_of state.unit state.octets;
+  adds = λ state part. added part.body;
+}

@@ -1,0 +1,10 @@
+pub mod AccessUnit
+pub mod Aggregate
+pub mod AggregateLaws
+pub mod IsAccessUnit
+pub mod IsPayload
+pub mod Joining
+pub mod Laws
+pub mod Nal
+pub mod Payload
+pub mod Writing

@@ -1,0 +1,85 @@
+//! From the units of parts to the octets of a frame.
+
+ghost use Rattle.std.specs.Prelude.{◌≡◌, ℕ, ◌+◌, ◌*◌, ◌/◌, ◌%◌, ◌≤◌, ◌∷◌, ◌++◌, List, length, map, vec_len, vec_capacity};
+ghost use Rattle.std.specs.List.{flat_map};
+ghost use Rattle.vrx_h264.specs.Aggregate.{units_of};
+ghost use Rattle.vrx_h264.specs.Payload.{Whole, pieces, cut_of};
+ghost use Rattle.vrx_h264.specs.AccessUnit.{behind_code};
+ghost use Rattle.vrx_h264.specs.Joining.{added_by, added as added_of};
+
+use crate::aggregate::front;
+use crate::joining::{START_CODE, first_octet};
+use crate::nal::{Form, bit, form_of, kind};
+
+/// Adds octets, for which there is room.
+fn append_octets(octets: &[u8], out: &mut Vec<u8>)
+    requires { vec_len out.old + length octets.now ≤ vec_capacity out.old }
+    ensures items { out.new.items ≡ out.old.items ++ octets.now }
+    ensures len { vec_len out.new ≡ vec_len out.old + length octets.now }
+    ensures capacity { vec_capacity out.old ≤ vec_capacity out.new }
+{
+    let Ok(()) = out.extend_from_slice(octets) else {
+        unreachable!()
+    };
+}
+
+/// Adds a unit behind its start code.
+fn append_unit(unit: &[u8], out: &mut Vec<u8>)
+    requires { vec_len out.old + 4 + length unit.now ≤ vec_capacity out.old }
+    ensures items { out.new.items ≡ out.old.items ++ behind_code unit.now }
+    ensures len { vec_len out.new ≡ vec_len out.old + 4 + length unit.now }
+    ensures capacity { vec_capacity out.old ≤ vec_capacity out.new }
+{
+    append_octets(&START_CODE, out);
+    append_octets(unit, out);
+}
+
+/// Adds the units of an aggregate.
+fn append_units(octets: &[u8], out: &mut Vec<u8>)
+    requires { vec_len out.old + length (flat_map added_by (map Whole (units_of octets.now).units))
+        ≤ vec_capacity out.old }
+    ensures items { out.new.items ≡ out.old.items
+        ++ flat_map added_by (map Whole (units_of octets.now).units) }
+    ensures capacity { vec_capacity out.old ≤ vec_capacity out.new }
+{
+    let mut rest = octets;
+    while let Some((unit, behind)) = front(rest) {
+        append_unit(unit, out);
+        rest = behind;
+    }
+}
+
+/// Adds the octets of a fragment, behind its indicator and header.
+fn append_cut(indicator: u8, octets: &[u8], out: &mut Vec<u8>)
+    requires { vec_len out.old + length (flat_map added_by (cut_of indicator octets.now))
+        ≤ vec_capacity out.old }
+    ensures items { out.new.items ≡ out.old.items
+        ++ flat_map added_by (cut_of indicator octets.now) }
+    ensures capacity { vec_capacity out.old ≤ vec_capacity out.new }
+{
+    let [header, octets @ ..] = octets else {
+        return;
+    };
+    if bit(*header, 128) {
+        append_octets(&START_CODE, out);
+        append_octets(&[first_octet(indicator, *header)], out);
+    }
+    append_octets(octets, out);
+}
+
+/// Adds the octets that a payload adds to those joined, for which there is room.
+pub(crate) fn append_payload(payload: &[u8], out: &mut Vec<u8>)
+    requires { vec_len out.old + length (added_of payload.now) ≤ vec_capacity out.old }
+    ensures items { out.new.items ≡ out.old.items ++ added_of payload.now }
+    ensures capacity { vec_capacity out.old ≤ vec_capacity out.new }
+{
+    let [head, octets @ ..] = payload else {
+        return;
+    };
+    match form_of(kind(*head)) {
+        Form::Single => append_unit(payload, out),
+        Form::Aggregate => append_units(octets, out),
+        Form::Fragmented => append_cut(*head, octets, out),
+        Form::Other => {}
+    }
+}

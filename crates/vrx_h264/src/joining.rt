@@ -1,0 +1,156 @@
+//! How the units of parts go on, one part after another (RFC 6184 5.7, 5.8).
+
+ghost use Rattle.std.specs.Prelude.{◌≡◌, ℕ, ◌+◌, ◌*◌, ◌/◌, ◌%◌, ◌^◌, ◌≤◌, ◌++◌, List, length, map, vec_len, vec_capacity};
+ghost use Rattle.std.specs.List.{flat_map};
+ghost use Rattle.vrx_h264.specs.Aggregate.{units_of};
+ghost use Rattle.vrx_h264.specs.Payload.{Whole, Cut, pieces, cut_of};
+ghost use Rattle.vrx_h264.specs.AccessUnit.{behind_code};
+ghost use Rattle.vrx_h264.specs.Joining.{begun_behind as begun_behind_of, begun_behind_all, added_by, added as added_of};
+
+use crate::aggregate::front;
+use crate::nal::{Form, bit, form_of, kind};
+use vrx_codec::JoinFault;
+
+/// What stands before each unit.
+pub(crate) const START_CODE: [u8; 4] = [0, 0, 0, 1];
+
+/// The fault of a later fragment while no unit is begun.
+const NO_START: u8 = 21;
+
+/// The fault of anything but a later fragment while a unit is begun.
+pub(crate) const NO_END: u8 = 22;
+
+/// The fault of a later fragment of a unit of another type.
+const MIXED: u8 = 23;
+
+/// The first octet of a fragment's unit: F and NRI of its indicator, and the type of its header.
+pub(crate) fn first_octet(indicator: u8, header: u8) -> u8
+    ensures { result ≡ indicator / 32 * 32 + header % 32 }
+{
+    indicator / 32 * 32 + kind(header)
+}
+
+/// The unit that is begun behind a whole one: none.
+fn begun_behind_whole(begun: Option<u8>) -> Result<Option<u8>, JoinFault>
+    ensures { (unit : List ℕ) → result ≡ begun_behind_of begun (Whole unit) }
+{
+    match begun {
+        None => Ok(None),
+        Some(_) => Err(JoinFault { code: NO_END }),
+    }
+}
+
+/// The unit that is begun behind those of an aggregate.
+fn begun_behind_units(begun: Option<u8>, octets: &[u8]) -> Result<Option<u8>, JoinFault>
+    ensures { result ≡ begun_behind_all begun (map Whole (units_of octets.now).units) }
+{
+    match front(octets) {
+        Some(_) => begun_behind_whole(begun),
+        None => Ok(begun),
+    }
+}
+
+/// The unit that is begun behind a fragment, by its indicator and header.
+fn begun_behind_header(
+    begun: Option<u8>,
+    indicator: u8,
+    header: u8,
+) -> Result<Option<u8>, JoinFault>
+    ensures { (octets : List ℕ) → result ≡ begun_behind_of begun
+        (Cut (record { indicator = indicator; header = header; octets = octets })) }
+{
+    match begun {
+        None => {
+            if bit(header, 128) {
+                Ok(Some(first_octet(indicator, header)))
+            } else {
+                Err(JoinFault { code: NO_START })
+            }
+        }
+        Some(first) => {
+            if bit(header, 128) {
+                Err(JoinFault { code: NO_END })
+            } else if kind(first) == kind(header) {
+                Ok(if bit(header, 64) { None } else { Some(first) })
+            } else {
+                Err(JoinFault { code: MIXED })
+            }
+        }
+    }
+}
+
+/// The unit that is begun behind a fragment.
+fn begun_behind_cut(
+    begun: Option<u8>,
+    indicator: u8,
+    octets: &[u8],
+) -> Result<Option<u8>, JoinFault>
+    ensures { result ≡ begun_behind_all begun (cut_of indicator octets.now) }
+{
+    match octets {
+        [header, ..] => begun_behind_header(begun, indicator, *header),
+        [] => Ok(begun),
+    }
+}
+
+/// The first octet of the unit that is begun behind a payload, where one is, from that before it.
+pub(crate) fn begun_behind(begun: Option<u8>, payload: &[u8]) -> Result<Option<u8>, JoinFault>
+    ensures { result ≡ begun_behind_all begun (pieces payload.now) }
+{
+    let [head, octets @ ..] = payload else {
+        return Ok(begun);
+    };
+    match form_of(kind(*head)) {
+        Form::Single => begun_behind_whole(begun),
+        Form::Aggregate => begun_behind_units(begun, octets),
+        Form::Fragmented => begun_behind_cut(begun, *head, octets),
+        Form::Other => Ok(begun),
+    }
+}
+
+/// How many octets the units of an aggregate add.
+fn added_units(octets: &[u8]) -> usize
+    requires { length octets.now ≤ 2 ^ 28 }
+    ensures added { result ≡ length (flat_map added_by (map Whole (units_of octets.now).units)) }
+{
+    let mut total = 0;
+    let mut rest = octets;
+    while let Some((unit, behind)) = front(rest) {
+        total += START_CODE.len() + unit.len();
+        rest = behind;
+    }
+    total
+}
+
+/// How many octets a fragment adds.
+fn added_cut(octets: &[u8]) -> usize
+    requires { length octets.now ≤ 2 ^ 28 }
+    ensures added { (indicator : ℕ) → result ≡ length (flat_map added_by (cut_of indicator octets.now)) }
+{
+    match octets {
+        [header, octets @ ..] => {
+            if bit(*header, 128) {
+                START_CODE.len() + 1 + octets.len()
+            } else {
+                octets.len()
+            }
+        }
+        [] => 0,
+    }
+}
+
+/// How many octets a payload adds to those joined.
+pub(crate) fn added(payload: &[u8]) -> usize
+    requires { length payload.now ≤ 2 ^ 28 }
+    ensures { result ≡ length (added_of payload.now) }
+{
+    let [head, octets @ ..] = payload else {
+        return 0;
+    };
+    match form_of(kind(*head)) {
+        Form::Single => START_CODE.len() + payload.len(),
+        Form::Aggregate => added_units(octets),
+        Form::Fragmented => added_cut(octets),
+        Form::Other => 0,
+    }
+}
