@@ -26,7 +26,7 @@ rtcp-to octets h =
     let b = and_parts (nat_le 2 (length octets)) (nat_le 192 (slice_index octets 1)) a.0 in
     record { has_type = leb-true 2 (length octets) b.0; at_least = leb-true 192 (slice_index octets 1) b.1; at_most = leb-true (slice_index octets 1) 223 a.1 }
 
-rtcp-from : (octets : List ℕ) → IsRtcp octets → is_rtcp octets ≡ true
+pub rtcp-from : (octets : List ℕ) → IsRtcp octets → is_rtcp octets ≡ true
 rtcp-from octets r = and_from _ _ (and_from _ _ (le-leb 2 (length octets) r.has_type) (le-leb 192 (slice_index octets 1) r.at_least)) (le-leb (slice_index octets 1) 223 r.at_most)
 
 -- an equation that a test denies
@@ -135,6 +135,6 @@ stream-taken settings octets packet read stream form = ap is_some (
     ∙ ap (λ b. option_map Refused (if b then Some Form else None)) form
     )
 
--- a packet without padding, with a payload of two octets or more, of which the first has bit X = 0, is of such a form
-pub plain-form : (packet : Packet) → packet.padding ≡ 0 → 2 ≤ length packet.payload → bit 128 (slice_index packet.payload 0) ≡ false → is_form packet ≡ false
-plain-form packet none long plain = or_from _ _ (ap not (eq-eqb packet.padding 0 none)) (or_from _ _ (le-ltb (length packet.payload) 2 long) plain)
+-- a packet with a payload of two octets or more, of which the first has bit X = 0, is of such a form
+pub plain-form : (packet : Packet) → 2 ≤ length packet.payload → bit 128 (slice_index packet.payload 0) ≡ false → is_form packet ≡ false
+plain-form packet long plain = or_from _ _ (le-ltb (length packet.payload) 2 long) plain

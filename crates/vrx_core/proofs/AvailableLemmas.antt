@@ -4,19 +4,21 @@ use Rattle.std.specs.Ordering.{eq_by_cmp}
 use Rattle.std.proofs.lemmas.Bool.{and_parts, ltb-true, leb-true}
 use Rattle.std.proofs.lemmas.Option.{none-some, same_Some}
 use Rattle.vrx_codec.specs.Meaning.{Meaning}
+use Rattle.vrx_rtp.specs.Reading.{read}
 use Rattle.vrx_core.specs.Window.{Content, Packets, at, in_window, newest_with, placed}
 use Rattle.vrx_core.specs.Verdict.{verdict}
 use Rattle.vrx_core.specs.Machine.{handled_as, Reply, ToDatagram, Snapshot, latest, next_frame, after_datagram, after_pull, what_of, snapshots}
 use Rattle.vrx_core.specs.Available.{WasTaken, IsInWindow, AvailableHolds}
 use Rattle.vrx_core.specs.declared.settings.Settings.{Settings}
 use Rattle.vrx_core.specs.declared.event.Event.{Event}
-use Rattle.vrx_core.specs.declared.event.Event.TheVariants.{Datagram, Pull}
+use Rattle.vrx_core.specs.declared.event.Event.TheVariants.{Datagram, Tick, Pull}
 use Rattle.vrx_core.specs.declared.form.NotTaken.{NotTaken}
 use Rattle.vrx_core.specs.declared.reply.Frame.{Frame}
 use Rattle.vrx_core.specs.declared.reply.What.TheVariants as what_became
 use Rattle.vrx_core.proofs.KeyLemmas.{same_key}
 use Rattle.vrx_core.proofs.KeepsLemmas.{find-placed, open-newest}
 use Rattle.vrx_core.proofs.TakenLemmas.{verdict_taken, verdict_open}
+use Rattle.vrx_core.proofs.TextLemmas.{text_in-to}
 use Rattle.vrx_core.proofs.StandsLemmas.{reply-is}
 
 -- a value behind two tests
@@ -71,7 +73,7 @@ module _ (settings : Settings) (codec : Meaning) (h : List Event) (n : ℕ) (con
                 after = [];
                 history = refl;
                 taken = reply-is settings codec h (Datagram moment octets) ∙ ap answered is ∙ ap answered_media (sym same);
-                media = sym new.1 ∙ (verdict_taken settings s.newest s.packets octets m c is).1;
+                media = text_in-to s.newest (read octets) m content (verdict_taken settings s.newest s.packets octets m c is).0 (sym new.1 ∙ (verdict_taken settings s.newest s.packets octets m c is).1);
               },
               (omega arith, omega arith),
             )
@@ -90,6 +92,9 @@ available_are settings codec [] n content there = absurd (none-some content ther
 available_are settings codec (Datagram moment octets ∷ h) n content there =
     let s : Snapshot = latest (snapshots settings codec h) in
     available_after settings codec h n content moment octets (verdict settings s.newest s.packets octets) refl (available_are settings codec h n content) there
+available_are settings codec (Tick moment ∷ h) n content there =
+    let before = available_are settings codec h n content there in
+    (taken_before settings codec h n content (Tick moment) before.0, before.1)
 available_are settings codec (Pull moment ∷ h) n content there =
     let past = snapshots settings codec h in
     let leaves = pull_leaves (latest past) moment (next_frame codec past) in

@@ -31,6 +31,7 @@ pub record IsTakenPacket (settings : Settings) (octets : List ℕ) : Type 0 wher
   pub source : packet.ssrc ≡ settings.media_ssrc
   pub payload : SaysPart packet.payload
   pub size : length octets ≤ 9216
+  pub other : is_rtcp octets ≡ false
 
 -- a test of which the opposite doesn't hold
 not_refused : (b : Bool) → not b ≡ false → b ≡ true
@@ -48,14 +49,13 @@ unmapped f (Some x) h = h
 
 module _ (settings : Settings) (octets : List ℕ) where
   -- what isn't refused, as it reads, is such a packet
-  from_reading : (r : Result Packet RtpFault) → reading octets ≡ r → length octets ≤ 9216 → is_some (reading_reason settings r) ≡ false → IsTakenPacket settings octets
-  from_reading (Err fault) is short h = absurd (true≢false h)
-  from_reading (Ok p) is short h =
+  from_reading : (r : Result Packet RtpFault) → reading octets ≡ r → length octets ≤ 9216 → is_rtcp octets ≡ false → is_some (reading_reason settings r) ≡ false → IsTakenPacket settings octets
+  from_reading (Err fault) is short other h = absurd (true≢false h)
+  from_reading (Ok p) is short other h =
       let source = open_test (not (p.ssrc == settings.media_ssrc)) OtherSsrc _ h in
       let type = open_test (not (p.pt == settings.media_type)) OtherType _ source.1 in
       let form = open_test (is_form p) Form None type.1 in
-      let padding = or_parts (not (p.padding == 0)) _ form.0 in
-      let long = or_parts (nat_lt (length p.payload) 2) _ padding.1 in
+      let long = or_parts (nat_lt (length p.payload) 2) _ form.0 in
       record {
         packet = p;
         reads = ap result_ok is;
@@ -63,6 +63,7 @@ module _ (settings : Settings) (octets : List ℕ) where
         source = eqb-true _ _ (not_refused _ source.0);
         payload = record { long = ltb-false (length p.payload) 2 long.0; no_extension = long.1 };
         size = short;
+        other = other;
       }
 
   -- what isn't refused is such a packet
@@ -70,7 +71,7 @@ module _ (settings : Settings) (octets : List ℕ) where
   taken_packet h =
       let size = open_test (nat_lt 9216 (length octets)) (Refused TooLong) _ h in
       let rtp = open_test (is_rtcp octets) (control octets) _ size.1 in
-      from_reading (reading octets) refl (ltb-false 9216 (length octets) size.0) (unmapped Refused (reading_reason settings (reading octets)) rtp.1)
+      from_reading (reading octets) refl (ltb-false 9216 (length octets) size.0) rtp.0 (unmapped Refused (reading_reason settings (reading octets)) rtp.1)
 
 -- what a payload's part is: a start where it begins a frame, and then key where the frame's first octet says so; it has
 -- no layers, and its body is what stands behind the first octet

@@ -13,7 +13,7 @@ use Rattle.vrx_core.specs.Front.{is_no_media, reached, front_after}
 use Rattle.vrx_core.specs.Machine.{Snapshot, latest, last_pulled, next_frame, after_datagram, after_pull, snapshots}
 use Rattle.vrx_core.specs.declared.settings.Settings.{Settings}
 use Rattle.vrx_core.specs.declared.event.Event.{Event}
-use Rattle.vrx_core.specs.declared.event.Event.TheVariants.{Datagram, Pull}
+use Rattle.vrx_core.specs.declared.event.Event.TheVariants.{Datagram, Tick, Pull}
 use Rattle.vrx_core.specs.declared.form.NotTaken.{NotTaken}
 use Rattle.vrx_core.specs.declared.reply.Frame.{Frame}
 use Rattle.vrx_core.proofs.MemberLemmas.{Contains-either}
@@ -99,6 +99,7 @@ module _ (settings : Settings) (codec : Meaning) where
   unfolding snapshots
   plain [] = record { media = tt; front = refl }
   plain (Datagram moment octets ∷ h) = let s : Snapshot = latest (snapshots settings codec h) in datagram-plain s moment octets (verdict settings s.newest s.packets octets) refl (plain h)
+  plain (Tick moment ∷ h) = record { media = (plain h).media; front = (plain h).front }
   plain (Pull moment ∷ h) = pull-plain (latest (snapshots settings codec h)) moment (next_frame codec (snapshots settings codec h)) (given-later h) (plain h)
 
   -- a number up to the last of a frame that was pulled is passed

@@ -7,10 +7,11 @@ use Rattle.vrx_codec.specs.Meaning.{Meaning}
 use Rattle.vrx_core.specs.Window.{Content}
 use Rattle.vrx_core.specs.Window as window
 use Rattle.vrx_core.specs.Form.{is_aside}
+use Rattle.vrx_core.specs.Text.{text_in}
 use Rattle.vrx_core.specs.Verdict.{number_of, verdict}
 use Rattle.vrx_core.specs.Run.{Run}
 use Rattle.vrx_core.specs.Deliverable.{stands}
-use Rattle.vrx_core.specs.Machine.{Snapshot, latest, last_pulled, after_datagram, after_pull}
+use Rattle.vrx_core.specs.Machine.{Snapshot, latest, last_pulled, after_datagram, after_tick, after_pull}
 use Rattle.vrx_core.specs.Sender.{SentFrame, Sender, wire_of}
 use Rattle.vrx_core.specs.WireForm.{content_of}
 use Rattle.vrx_core.specs.HonestSender.{Travels, HonestSender}
@@ -106,7 +107,7 @@ module _ (settings : Settings) (codec : Meaning) (sender : Sender) (honest : Hon
   opening-holds = record { newest = refl; kept = tt; pulled = tt; closed = λ f g c way. absurd (Contains-empty f c) }
 
   -- the entry of a datagram that is taken
-  taken-kept : (js : List ℕ) (i n : ℕ) (octets : List ℕ) (content : Content) → Brings settings sender i octets → content ≡ window.Media octets → IsNumber sender js i n → IsKept sender js (n, content)
+  taken-kept : (js : List ℕ) (i n : ℕ) (octets : List ℕ) (content : Content) → Brings settings sender i octets → content ≡ window.Media (text_in octets) → IsNumber sender js i n → IsKept sender js (n, content)
   taken-kept js i n octets content b media numbered = record {
     place = i;
     carried = subst (λ (c : Content). IsSomeAnd (slice_get sender.packets i) (λ packet. c ≡ content_of packet)) (sym media) b.carried;
@@ -130,7 +131,7 @@ module _ (settings : Settings) (codec : Meaning) (sender : Sender) (honest : Hon
     brought-holds : (i : ℕ) (octets : List ℕ) → Brings settings sender i octets → IsNear i js → (r : Result (ℕ × Content) NotTaken) → verdict settings s.newest s.packets octets ≡ r → Holds (after_datagram s moment r) (if is_ok r then i ∷ js else js) fs
     brought-holds i octets b near (Err reason) is = refused-holds reason
     brought-holds i octets b near (Ok (n, content)) is =
-        let took : (number_of s.newest octets ≡ Some n) × (content ≡ window.Media octets) = verdict_taken settings s.newest s.packets octets n content is in
+        let took : (number_of s.newest octets ≡ Some n) × (content ≡ window.Media (text_in octets)) = verdict_taken settings s.newest s.packets octets n content is in
         let number : extended s.newest (wire_of sender i) ≡ Some n = taken-extended i n octets b took.0 in
         record {
           newest = taken-newest sender js s.newest i n h.newest near number;
@@ -144,6 +145,10 @@ module _ (settings : Settings) (codec : Meaning) (sender : Sender) (honest : Hon
     -- a sender's datagram that is near those taken
     pub datagram-holds : (i : ℕ) (octets : List ℕ) → Brings settings sender i octets → IsNear i js → Holds (after_datagram s moment (verdict settings s.newest s.packets octets)) (if is_ok (verdict settings s.newest s.packets octets) then i ∷ js else js) fs
     datagram-holds i octets b near = brought-holds i octets b near (verdict settings s.newest s.packets octets) refl
+
+    -- a tick
+    pub tick-holds : Holds (after_tick s moment) js fs
+    tick-holds = record { newest = h.newest; kept = h.kept; pulled = h.pulled; closed = h.closed }
 
     -- a pull that gives nothing
     pub none-holds : Holds (after_pull s moment None) js fs

@@ -4,7 +4,7 @@ use Rattle.std.specs.List.Sorted.{IsStrictlyIncreasing}
 use Rattle.vrx_codec.specs.Meaning.{Meaning}
 use Rattle.vrx_core.specs.Run.{Run}
 use Rattle.vrx_core.specs.Deliverable.{answer}
-use Rattle.vrx_core.specs.Machine.{Reply, ToDatagram, ToPull, Snapshot, latest, frame_of, next_frame, pulled_of, after_pull, snapshots, reply, replies}
+use Rattle.vrx_core.specs.Machine.{Reply, ToDatagram, ToTick, ToPull, Snapshot, latest, frame_of, next_frame, pulled_of, after_pull, snapshots, reply, replies}
 use Rattle.vrx_core.specs.Sender.{Sender}
 use Rattle.vrx_core.specs.Chain.{InChain}
 use Rattle.vrx_core.specs.HonestSender.{HonestSender}
@@ -13,12 +13,13 @@ use Rattle.vrx_core.specs.HonestRuns.{IsFrameRun}
 use Rattle.vrx_core.specs.HonestCall.{IsSentFrame, IsAnswer, Answers, places_of, frames_of, AreSent, BeginsWithKey, AfterReferences, HonestCall, HonestCallHolds}
 use Rattle.vrx_core.specs.declared.settings.Settings.{Settings}
 use Rattle.vrx_core.specs.declared.event.Event.{Event}
-use Rattle.vrx_core.specs.declared.event.Event.TheVariants.{Datagram, Pull}
+use Rattle.vrx_core.specs.declared.event.Event.TheVariants.{Datagram, Tick, Pull}
 use Rattle.vrx_core.specs.declared.reply.Frame.{Frame}
 use Rattle.vrx_core.specs.declared.reply.Pulled.TheVariants as pulls
 use Rattle.vrx_core.proofs.AnswerLemmas.{answer-given}
 use Rattle.vrx_core.proofs.TakenLemmas.{brings}
-use Rattle.vrx_core.proofs.HoldsLemmas.{Holds, bound_of, opening-holds, form-holds, datagram-holds, none-holds, frame-holds}
+use Rattle.vrx_core.proofs.TextLemmas.{ReadsPacket}
+use Rattle.vrx_core.proofs.HoldsLemmas.{Holds, bound_of, opening-holds, form-holds, datagram-holds, tick-holds, none-holds, frame-holds}
 use Rattle.vrx_core.proofs.ReadyLemmas.{runs_now, pulled_now, front_now, frame_is, none_ready, answer_least, answer_sent, answer_later, answer_pulled, answer_key, answer_chain, answer_references}
 
 -- places that rise strictly, from this bound on
@@ -40,6 +41,7 @@ rising bound (p ∷ q ∷ ps) r (suc k) within =
 -- references, and is a keyframe where none was given; or nothing
 abbrev pub Gives : Sender → ℕ → List ℕ → List ℕ → Option ℕ → Reply → Type 0
 Gives sender bound fs after None (ToDatagram handled) = after ≡ fs
+Gives sender bound fs after None (ToTick feedback) = after ≡ fs
 Gives sender bound fs after None (ToPull pulls.NotReady) = after ≡ fs
 Gives sender bound fs after (Some f) (ToPull (pulls.Frame frame)) =
     (bound ≤ f) × (after ≡ f ∷ fs) × IsSomeAnd (slice_get sender.frames f) (λ sent. IsSentFrame sent frame) × (fs ≡ [] → frame.key ≡ true)
@@ -74,12 +76,12 @@ module _ (settings : Settings) (codec : Meaning) (sender : Sender) (honest : Hon
 
   module _ (h : List Event) (origins : List Origin) (fs : List ℕ) where
     -- a datagram of the sender
-    sent_step : (moment : ℕ) (octets : List ℕ) (i : ℕ) → HoldsAt h origins fs → IsDelivery settings codec sender h origins (Datagram moment octets) (FromSender i) → Step h origins fs (Datagram moment octets) (FromSender i)
+    sent_step : ReadsPacket → (moment : ℕ) (octets : List ℕ) (i : ℕ) → HoldsAt h origins fs → IsDelivery settings codec sender h origins (Datagram moment octets) (FromSender i) → Step h origins fs (Datagram moment octets) (FromSender i)
     unfolding snapshots taken reply
-    sent_step moment octets i holds delivery = record {
+    sent_step law moment octets i holds delivery = record {
       after = fs;
       place = None;
-      holds = datagram-holds settings codec sender honest (latest (snapshots settings codec h)) (taken settings codec h origins) fs holds moment i octets (brings settings codec sender honest i octets delivery.0) delivery.1;
+      holds = datagram-holds settings codec sender honest (latest (snapshots settings codec h)) (taken settings codec h origins) fs holds moment i octets (brings law settings codec sender honest i octets delivery.0) delivery.1;
       answer = tt;
       gives = refl;
     }
@@ -91,6 +93,17 @@ module _ (settings : Settings) (codec : Meaning) (sender : Sender) (honest : Hon
       after = fs;
       place = None;
       holds = form-holds settings codec sender honest (latest (snapshots settings codec h)) (taken settings codec h origins) fs holds moment octets form;
+      answer = tt;
+      gives = refl;
+    }
+
+    -- a tick
+    tick_step : (moment : ℕ) → HoldsAt h origins fs → Step h origins fs (Tick moment) Elsewhere
+    unfolding snapshots taken reply
+    tick_step moment holds = record {
+      after = fs;
+      place = None;
+      holds = tick-holds settings codec sender honest (latest (snapshots settings codec h)) (taken settings codec h origins) fs holds moment;
       answer = tt;
       gives = refl;
     }
@@ -143,11 +156,13 @@ module _ (settings : Settings) (codec : Meaning) (sender : Sender) (honest : Hon
       pull_by (Some run) given = frame_step run given
 
     -- each delivery
-    pub step : HoldsAt h origins fs → (e : Event) (o : Origin) → IsDelivery settings codec sender h origins e o → Step h origins fs e o
-    step holds (Datagram moment octets) (FromSender i) delivery = sent_step moment octets i holds delivery
-    step holds (Datagram moment octets) Elsewhere delivery = other_step moment octets holds delivery
-    step holds (Pull moment) (FromSender i) delivery = absurd delivery
-    step holds (Pull moment) Elsewhere delivery = pull_by moment holds answered refl
+    pub step : ReadsPacket → HoldsAt h origins fs → (e : Event) (o : Origin) → IsDelivery settings codec sender h origins e o → Step h origins fs e o
+    step law holds (Datagram moment octets) (FromSender i) delivery = sent_step law moment octets i holds delivery
+    step law holds (Datagram moment octets) Elsewhere delivery = other_step moment octets holds delivery
+    step law holds (Tick moment) (FromSender i) delivery = absurd delivery
+    step law holds (Tick moment) Elsewhere delivery = tick_step moment holds
+    step law holds (Pull moment) (FromSender i) delivery = absurd delivery
+    step law holds (Pull moment) Elsewhere delivery = pull_by moment holds answered refl
 
     -- nothing given before the rest
     nothing_before : (after : List ℕ) (e : Event) (o : Origin) (es : List Event) (os : List Origin) (r : Reply) (rs : List Reply) → frames_of (r ∷ rs) ≡ frames_of rs → IsAnswer settings codec sender h origins e r None → after ≡ fs → CallFrom (e ∷ h) (o ∷ origins) after es os rs → CallFrom h origins fs (e ∷ es) (o ∷ os) (r ∷ rs)
@@ -166,6 +181,8 @@ module _ (settings : Settings) (codec : Meaning) (sender : Sender) (honest : Hon
     step_before : (after : List ℕ) (e : Event) (o : Origin) (es : List Event) (os : List Origin) (place : Option ℕ) (r : Reply) (rs : List Reply) → IsAnswer settings codec sender h origins e r place → Gives sender (bound fs) fs after place r → CallFrom (e ∷ h) (o ∷ origins) after es os rs → CallFrom h origins fs (e ∷ es) (o ∷ os) (r ∷ rs)
     step_before after e o es os None (ToDatagram handled) rs answer gives rest = nothing_before after e o es os (ToDatagram handled) rs refl answer gives rest
     step_before after e o es os (Some f) (ToDatagram handled) rs answer gives rest = absurd gives
+    step_before after e o es os None (ToTick feedback) rs answer gives rest = nothing_before after e o es os (ToTick feedback) rs refl answer gives rest
+    step_before after e o es os (Some f) (ToTick feedback) rs answer gives rest = absurd gives
     step_before after e o es os None (ToPull pulls.NotReady) rs answer gives rest = nothing_before after e o es os (ToPull pulls.NotReady) rs refl answer gives rest
     step_before after e o es os (Some f) (ToPull pulls.NotReady) rs answer gives rest = absurd gives
     step_before after e o es os None (ToPull (pulls.Frame frame)) rs answer gives rest = absurd gives
@@ -179,15 +196,15 @@ module _ (settings : Settings) (codec : Meaning) (sender : Sender) (honest : Hon
     }
 
   -- the rest of an honest call
-  call_from : (events : List Event) (h : List Event) (origins later : List Origin) (fs : List ℕ) → HoldsAt h origins fs → HonestNetwork settings codec sender h origins events later → CallFrom h origins fs events later (replies settings codec h events)
+  call_from : ReadsPacket → (events : List Event) (h : List Event) (origins later : List Origin) (fs : List ℕ) → HoldsAt h origins fs → HonestNetwork settings codec sender h origins events later → CallFrom h origins fs events later (replies settings codec h events)
   unfolding replies
-  call_from [] h origins [] fs holds network = record { given = []; answers = tt; rise = tt; sent = tt; from_key = λ _. tt; references = tt }
-  call_from [] h origins (o ∷ os) fs holds network = absurd network
-  call_from (e ∷ es) h origins [] fs holds network = absurd network
-  call_from (e ∷ es) h origins (o ∷ os) fs holds network =
-      let s : Step h origins fs e o = step h origins fs holds e o network.0 in
+  call_from law [] h origins [] fs holds network = record { given = []; answers = tt; rise = tt; sent = tt; from_key = λ _. tt; references = tt }
+  call_from law [] h origins (o ∷ os) fs holds network = absurd network
+  call_from law (e ∷ es) h origins [] fs holds network = absurd network
+  call_from law (e ∷ es) h origins (o ∷ os) fs holds network =
+      let s : Step h origins fs e o = step h origins fs law holds e o network.0 in
       step_before h origins fs s.after e o es os s.place (reply settings codec h e) (replies settings codec (e ∷ h) es) s.answer s.gives
-      (call_from es (e ∷ h) (o ∷ origins) os s.after s.holds network.1)
+      (call_from law es (e ∷ h) (o ∷ origins) os s.after s.holds network.1)
 
   -- before the first event
   pub first_holds : HoldsAt [] [] []
@@ -195,11 +212,11 @@ module _ (settings : Settings) (codec : Meaning) (sender : Sender) (honest : Hon
   first_holds = opening-holds settings codec sender honest
 
   -- a whole honest call
-  pub honest-call : (events : List Event) (origins : List Origin) → HonestNetwork settings codec sender [] [] events origins → HonestCall settings codec sender events origins (replies settings codec [] events)
-  honest-call events origins network =
-      let call : CallFrom [] [] [] events origins (replies settings codec [] events) = call_from events [] [] origins [] first_holds network in
+  pub honest-call : ReadsPacket → (events : List Event) (origins : List Origin) → HonestNetwork settings codec sender [] [] events origins → HonestCall settings codec sender events origins (replies settings codec [] events)
+  honest-call law events origins network =
+      let call : CallFrom [] [] [] events origins (replies settings codec [] events) = call_from law events [] [] origins [] first_holds network in
       record { given = call.given; answers = call.answers; rising = rising 0 (places_of call.given) call.rise; sent = call.sent; from_key = call.from_key refl; after_references = call.references }
 
 -- every honest call is answered rightly
-pub honest_call : HonestCallHolds
-honest_call settings codec sender events origins honest network = honest-call settings codec sender honest events origins network
+pub honest_call : ReadsPacket → HonestCallHolds
+honest_call law settings codec sender events origins honest network = honest-call settings codec sender honest law events origins network

@@ -1,8 +1,13 @@
 -- An honest sender and an honest network, worked by hand: the premises of the law can be met.
 use Rattle.std.proofs.Common.{◌≢◌, ◌≤◌, ◌<◌, ◌≡◌, ◌∙◌, ap, inl, inr, Contains, All, ℕ, zero, suc, ◌+◌, true, false, List, [], ◌∷◌, length, None, IfSome, slice_get, refl, arith}
+use Rattle.std.specs.Prelude.{nat_lt}
+use Rattle.std.specs.List.{AllByRecursion, list_all}
+use Rattle.std.proofs.lemmas.Bool.{and_parts, ltb-true}
 use Rattle.std.proofs.lemmas.List.Elements.{All-nil, All-from_recursion}
+use Rattle.vrx_rtp.specs.Packet.{AreOctets}
+use Rattle.vrx_core.specs.WireForm.{IsPadded}
 use Rattle.vrx_vp8.specs.Descriptor.{vp8}
-use Rattle.vrx_core.specs.Machine.{snapshots}
+use Rattle.vrx_core.specs.Machine.{handled_as, ToDatagram, ToTick, ToPull, no_feedback, replies, reply, snapshots}
 use Rattle.vrx_core.specs.Sender.{SentFrame, Media, Sender}
 use Rattle.vrx_codec.specs.declared.part.Start.TheVariants.{Yes, No}
 use Rattle.vrx_core.specs.Chain.{InChain}
@@ -10,7 +15,11 @@ use Rattle.vrx_core.specs.HonestSender.{Carried, IsPart, Travels, HonestSender}
 use Rattle.vrx_core.specs.HonestNetwork.{Origin, FromSender, Elsewhere, HonestNetwork, taken}
 use Rattle.vrx_core.specs.declared.settings.Settings.{Settings}
 use Rattle.vrx_core.specs.declared.event.Event.{Event}
-use Rattle.vrx_core.specs.declared.event.Event.TheVariants.{Datagram, Pull}
+use Rattle.vrx_core.specs.declared.event.Event.TheVariants.{Datagram, Tick, Pull}
+use Rattle.vrx_core.specs.declared.reply.What.TheVariants as what
+use Rattle.vrx_core.specs.declared.reply.What.TheVariants.{Dropped}
+use Rattle.vrx_core.specs.declared.reply.Reason.TheVariants.{NotRtp, Repeat}
+use Rattle.vrx_core.specs.declared.reply.Pulled.TheVariants.{NotReady, Frame}
 use Rattle.vrx_core.proofs.MemberLemmas.{Contains-either, Contains-empty}
 
 abbrev settings : Settings
@@ -57,11 +66,18 @@ third_part = record {
   part = record { start = Yes; key = false; layers = None; body = 1 ∷ 204 ∷ [] };
 }
 
+-- octets, as a test
+are_octets : (octets : List ℕ) → list_all (λ octet. nat_lt octet 256) octets ≡ true → AreOctets octets
+are_octets octets h = All-from_recursion (λ octet. octet < 256) octets (each octets h) where
+  each : (os : List ℕ) → list_all (λ octet. nat_lt octet 256) os ≡ true → AllByRecursion (λ octet. octet < 256) os
+  each [] h = tt
+  each (o ∷ os) h = let both = and_parts (nat_lt o 256) (list_all (λ octet. nat_lt octet 256) os) h in (ltb-true o 256 both.0, each os both.1)
+
 -- each packet is a part of its frame
 first_is : IsPart settings vp8 sender 0 first_frame 2 0 0 first_part
 first_is = record {
   sent = refl;
-  media = record { size = omega arith; reads = refl; no_padding = refl; number = refl; type = refl; source = refl; payload = λ e. cc; part_reads = refl; no_rtcp = λ r. absurd (omega (arith, r.at_most)); long = omega arith; no_extension = refl };
+  media = record { size = omega arith; below = are_octets first_text refl; reads = refl; no_padding = refl; number = refl; type = refl; source = refl; payload = λ e. cc; part_reads = refl; no_rtcp = λ r. absurd (omega (arith, r.at_most)); long = omega arith; no_extension = refl };
   timestamp = refl;
   marker = (λ e. cc, λ e. absurd (omega arith));
   start = refl;
@@ -71,7 +87,7 @@ first_is = record {
 second_is : IsPart settings vp8 sender 0 first_frame 2 1 1 second_part
 second_is = record {
   sent = refl;
-  media = record { size = omega arith; reads = refl; no_padding = refl; number = refl; type = refl; source = refl; payload = λ e. cc; part_reads = refl; no_rtcp = λ r. absurd (omega (arith, r.at_most)); long = omega arith; no_extension = refl };
+  media = record { size = omega arith; below = are_octets second_text refl; reads = refl; no_padding = refl; number = refl; type = refl; source = refl; payload = λ e. cc; part_reads = refl; no_rtcp = λ r. absurd (omega (arith, r.at_most)); long = omega arith; no_extension = refl };
   timestamp = refl;
   marker = (λ e. refl, λ e. refl);
   start = refl;
@@ -81,7 +97,7 @@ second_is = record {
 third_is : IsPart settings vp8 sender 1 second_frame 1 0 2 third_part
 third_is = record {
   sent = refl;
-  media = record { size = omega arith; reads = refl; no_padding = refl; number = refl; type = refl; source = refl; payload = λ e. cc; part_reads = refl; no_rtcp = λ r. absurd (omega (arith, r.at_most)); long = omega arith; no_extension = refl };
+  media = record { size = omega arith; below = are_octets third_text refl; reads = refl; no_padding = refl; number = refl; type = refl; source = refl; payload = λ e. cc; part_reads = refl; no_rtcp = λ r. absurd (omega (arith, r.at_most)); long = omega arith; no_extension = refl };
   timestamp = refl;
   marker = (λ e. refl, λ e. refl);
   start = refl;
@@ -162,14 +178,65 @@ sender-honest = record {
   last zero = tt
   last (suc f) = tt
 
--- the last packet of the first frame, octets of a form that isn't taken, a pull, the first packet, a repeat, and a pull
+-- the third packet with padding of three octets
+abbrev third_padded : List ℕ
+third_padded = 160 ∷ 224 ∷ 0 ∷ 1 ∷ 0 ∷ 0 ∷ 0 ∷ 9 ∷ 0 ∷ 0 ∷ 0 ∷ 10 ∷ 16 ∷ 1 ∷ 204 ∷ 7 ∷ 7 ∷ 3 ∷ []
+
+third_is_padded : IsPadded third_text third_padded
+unfolding are_octets
+third_is_padded = record {
+  size = omega arith;
+  below = are_octets third_padded refl;
+  packet = record { marker = true; pt = 96; seq = 1; ts = 9; ssrc = 10; csrc = []; extension = None; payload = 16 ∷ 1 ∷ 204 ∷ []; padding = 3 };
+  reads = refl;
+  spelled = refl;
+}
+
+-- the last packet of the first frame, octets of a form that isn't taken, a pull, a tick, the first packet, a repeat, a
+-- pull, the third packet with padding, the same without, and a pull
 abbrev events : List Event
-events = Datagram 0 second_text ∷ Datagram 1 (7 ∷ []) ∷ Pull 2 ∷ Datagram 3 first_text ∷ Datagram 3 second_text ∷ Pull 4 ∷ []
+events =
+    Datagram 0 second_text ∷ Datagram 1 (7 ∷ []) ∷ Pull 2 ∷ Tick 2 ∷ Datagram 3 first_text ∷ Datagram 3 second_text ∷ Pull 4
+    ∷ Datagram 5 third_padded ∷ Datagram 6 third_text ∷ Pull 7 ∷ []
 
 abbrev origins : List Origin
-origins = FromSender 1 ∷ Elsewhere ∷ Elsewhere ∷ FromSender 0 ∷ FromSender 1 ∷ Elsewhere ∷ []
+origins =
+    FromSender 1 ∷ Elsewhere ∷ Elsewhere ∷ Elsewhere ∷ FromSender 0 ∷ FromSender 1 ∷ Elsewhere
+    ∷ FromSender 2 ∷ FromSender 2 ∷ Elsewhere ∷ []
 
 -- the network is honest
 pub network-honest : HonestNetwork settings vp8 sender [] [] events origins
 unfolding snapshots taken
-network-honest = ((refl, tt), (refl, (tt, ((refl, (omega arith, omega arith)), ((refl, (omega arith, omega arith)), (tt, tt))))))
+network-honest = (
+  (inl refl, tt),
+  (
+    refl,
+    (
+      tt,
+      (
+        tt,
+        (
+          (inl refl, (omega arith, omega arith)),
+          (
+            (inl refl, (omega arith, omega arith)),
+            (
+              tt,
+              (
+                (inr third_is_padded, (omega arith, omega arith)),
+                ((inl refl, (omega arith, omega arith)), (tt, tt)),
+              ),
+            ),
+          ),
+        ),
+      ),
+    ),
+  ),
+)
+
+-- the padded datagram is taken, the same without padding is a repeat, and the frame has no padding octet
+pub padded_taken : replies settings vp8 [] events
+    ≡ ToDatagram (handled_as (what.Media 65536)) ∷ ToDatagram (handled_as (Dropped NotRtp)) ∷ ToPull NotReady ∷ ToTick no_feedback ∷ ToDatagram (handled_as (what.Media 65535)) ∷ ToDatagram (handled_as (Dropped Repeat))
+    ∷ ToPull (Frame (record { first = 65535; last = 65536; ts = 0; key = true; bytes = 0 ∷ 170 ∷ 187 ∷ [] }))
+    ∷ ToDatagram (handled_as (what.Media 65537)) ∷ ToDatagram (handled_as (Dropped Repeat)) ∷ ToPull (Frame (record { first = 65537; last = 65537; ts = 9; key = false; bytes = 1 ∷ 204 ∷ [] })) ∷ []
+unfolding replies reply snapshots
+padded_taken = refl

@@ -10,6 +10,7 @@ use Rattle.vrx_core.specs.declared.settings.Settings.{Settings}
 use Rattle.vrx_core.specs.declared.event.Event.{Event}
 use Rattle.vrx_core.proofs.HoldsLemmas.{Holds}
 use Rattle.vrx_core.proofs.HonestLemmas.{Step, step, first_holds}
+use Rattle.vrx_core.proofs.TextLemmas.{ReadsPacket}
 use Rattle.vrx_core.proofs.ReadyLemmas.{IsRunOf, frame_is, complete_run}
 
 module _ (settings : Settings) (codec : Meaning) (sender : Sender) (honest : HonestSender settings codec sender) where
@@ -23,14 +24,14 @@ module _ (settings : Settings) (codec : Meaning) (sender : Sender) (honest : Hon
   }
 
   -- and after each event of the rest of an honest call
-  runs_from : (events : List Event) (h : List Event) (origins later : List Origin) (fs : List ℕ) → Holds settings codec sender honest (latest (snapshots settings codec h)) (taken settings codec h origins) fs → HonestNetwork settings codec sender h origins events later → RunsRightlyFrom settings codec sender h origins events later
-  runs_from [] h origins [] fs holds network = runs_rightly h origins fs holds
-  runs_from [] h origins (o ∷ os) fs holds network = absurd network
-  runs_from (e ∷ es) h origins [] fs holds network = absurd network
-  runs_from (e ∷ es) h origins (o ∷ os) fs holds network =
-      let s : Step settings codec sender honest h origins fs e o = step settings codec sender honest h origins fs holds e o network.0 in
-      (runs_rightly h origins fs holds, runs_from es (e ∷ h) (o ∷ origins) os s.after s.holds network.1)
+  runs_from : ReadsPacket → (events : List Event) (h : List Event) (origins later : List Origin) (fs : List ℕ) → Holds settings codec sender honest (latest (snapshots settings codec h)) (taken settings codec h origins) fs → HonestNetwork settings codec sender h origins events later → RunsRightlyFrom settings codec sender h origins events later
+  runs_from law [] h origins [] fs holds network = runs_rightly h origins fs holds
+  runs_from law [] h origins (o ∷ os) fs holds network = absurd network
+  runs_from law (e ∷ es) h origins [] fs holds network = absurd network
+  runs_from law (e ∷ es) h origins (o ∷ os) fs holds network =
+      let s : Step settings codec sender honest h origins fs e o = step settings codec sender honest h origins fs law holds e o network.0 in
+      (runs_rightly h origins fs holds, runs_from law es (e ∷ h) (o ∷ origins) os s.after s.holds network.1)
 
 -- in every honest call the runs are the sender's frames
-pub honest_runs : HonestRunsHolds
-honest_runs settings codec sender events origins honest network = runs_from settings codec sender honest events [] [] origins [] (first_holds settings codec sender honest) network
+pub honest_runs : ReadsPacket → HonestRunsHolds
+honest_runs law settings codec sender events origins honest network = runs_from settings codec sender honest law events [] [] origins [] (first_holds settings codec sender honest) network

@@ -16,7 +16,7 @@ use Rattle.vrx_core.specs.HonestTaken.{IsToTake, IsToKeep, KeepsRightly, TakesPa
 use Rattle.vrx_core.specs.Ready.{IsNumber}
 use Rattle.vrx_core.specs.declared.settings.Settings.{Settings}
 use Rattle.vrx_core.specs.declared.event.Event.{Event}
-use Rattle.vrx_core.specs.declared.event.Event.TheVariants.{Datagram, Pull}
+use Rattle.vrx_core.specs.declared.event.Event.TheVariants.{Datagram, Tick, Pull}
 use Rattle.vrx_core.specs.declared.form.NotTaken.{NotTaken}
 use Rattle.vrx_core.specs.declared.reply.What.{What}
 use Rattle.vrx_core.specs.declared.reply.What.TheVariants.{Media}
@@ -24,6 +24,7 @@ use Rattle.vrx_core.specs.declared.reply.Frame.{Frame}
 use Rattle.vrx_core.proofs.NumberLemmas.{IsNewestOf, taken-number, taken-newest, wire_below, is_number-extends}
 use Rattle.vrx_core.proofs.KeptLemmas.{AreKept, kept-there}
 use Rattle.vrx_core.proofs.TakenLemmas.{Brings, brings, number_of-text, verdict_taken, verdict_open, verdict_take, verdict_aside}
+use Rattle.vrx_core.proofs.TextLemmas.{ReadsPacket}
 use Rattle.vrx_core.proofs.MemberLemmas.{Contains-empty}
 use Rattle.vrx_core.proofs.KeepsLemmas.{Keeps, greatest-upto, near-number, number-near, one-place, open-newest, placed-keeps}
 use Rattle.vrx_core.proofs.HoldsLemmas.{Holds}
@@ -151,16 +152,18 @@ module _ (settings : Settings) (codec : Meaning) (sender : Sender) (h : List Eve
     only = λ n h'. let p = keeps.from n h' in (p.0, p.2, (p.1, p.3));
   }
 
-  module _ (honest : HonestSender settings codec sender) (newest : IsNewestOf sender (taken settings codec h origins) (latest (snapshots settings codec h)).newest) (keeps : Keeps sender (taken settings codec h origins) (latest (snapshots settings codec h)).packets) where
+  module _ (law : ReadsPacket) (honest : HonestSender settings codec sender) (newest : IsNewestOf sender (taken settings codec h origins) (latest (snapshots settings codec h)).newest) (keeps : Keeps sender (taken settings codec h origins) (latest (snapshots settings codec h)).packets) where
     -- what is kept after one event more
     keeps_step : (e : Event) (o : Origin) → IsDelivery settings codec sender h origins e o → Keeps sender (taken settings codec (e ∷ h) (o ∷ origins)) (latest (snapshots settings codec (e ∷ h))).packets
     unfolding snapshots taken
     keeps_step (Datagram moment octets) (FromSender i) delivery =
         let s : Snapshot = latest (snapshots settings codec h) in
-        brought-keeps settings sender s i octets (brings settings codec sender honest i octets delivery.0) (taken settings codec h origins) moment newest keeps delivery.1 (verdict settings s.newest s.packets octets) refl
+        brought-keeps settings sender s i octets (brings law settings codec sender honest i octets delivery.0) (taken settings codec h origins) moment newest keeps delivery.1 (verdict settings s.newest s.packets octets) refl
     keeps_step (Datagram moment octets) Elsewhere delivery =
         let s : Snapshot = latest (snapshots settings codec h) in
         subst (λ (r : Result (ℕ × Content) NotTaken). Keeps sender (taken settings codec h origins) (after_datagram s moment r).packets) (sym (verdict_aside settings s.newest s.packets octets delivery).1) keeps
+    keeps_step (Tick moment) (FromSender i) delivery = absurd delivery
+    keeps_step (Tick moment) Elsewhere delivery = keeps
     keeps_step (Pull moment) (FromSender i) delivery = absurd delivery
     keeps_step (Pull moment) Elsewhere delivery = subst (λ (packets : Packets). Keeps sender (taken settings codec h origins) packets) (sym (pull_packets (latest (snapshots settings codec h)) moment (next_frame codec (snapshots settings codec h)))) keeps
 
@@ -169,7 +172,7 @@ module _ (settings : Settings) (codec : Meaning) (sender : Sender) (h : List Eve
     unfolding reply
     takes_packet moment octets i delivery = let s : Snapshot = latest (snapshots settings codec h) in
         let js : List ℕ = taken settings codec h origins in
-        let b : Brings settings sender i octets = brings settings codec sender honest i octets delivery.0 in
+        let b : Brings settings sender i octets = brings law settings codec sender honest i octets delivery.0 in
         record {
           exactly = rightly-taken settings sender s i octets b js newest keeps delivery.1;
           answer = λ h'. let p = brought-answer settings sender s i octets b js newest delivery.1 h' in (p.0, p.1, ap to p.2);
@@ -181,6 +184,7 @@ module _ (settings : Settings) (codec : Meaning) (sender : Sender) (h : List Eve
     rightly_step : (e : Event) (o : Origin) → IsDelivery settings codec sender h origins e o → IsTakenRightly settings codec sender h origins e o
     rightly_step (Datagram moment octets) (FromSender i) delivery = takes_packet moment octets i delivery
     rightly_step (Datagram moment octets) Elsewhere delivery = tt
+    rightly_step (Tick moment) o delivery = tt
     rightly_step (Pull moment) o delivery = tt
 
 -- no number is available before the first event
@@ -188,19 +192,19 @@ first_keeps : (settings : Settings) (codec : Meaning) (sender : Sender) → Keep
 unfolding snapshots taken
 first_keeps settings codec sender = record { from = λ n h. absurd (cc); all = λ i n c is near. absurd is }
 
-module _ (settings : Settings) (codec : Meaning) (sender : Sender) (honest : HonestSender settings codec sender) where
+module _ (law : ReadsPacket) (settings : Settings) (codec : Meaning) (sender : Sender) (honest : HonestSender settings codec sender) where
   -- the rest of an honest call takes and keeps rightly
   takes_from : (events : List Event) (h : List Event) (origins later : List Origin) (fs : List ℕ) → Holds settings codec sender honest (latest (snapshots settings codec h)) (taken settings codec h origins) fs → Keeps sender (taken settings codec h origins) (latest (snapshots settings codec h)).packets → HonestNetwork settings codec sender h origins events later → TakesRightly settings codec sender h origins events later
   takes_from [] h origins [] fs holds keeps network = kept_rightly settings codec sender h origins holds.newest holds.kept keeps
   takes_from [] h origins (o ∷ os) fs holds keeps network = absurd network
   takes_from (e ∷ es) h origins [] fs holds keeps network = absurd network
   takes_from (e ∷ es) h origins (o ∷ os) fs holds keeps network =
-      let s : Step settings codec sender honest h origins fs e o = step settings codec sender honest h origins fs holds e o network.0 in (
+      let s : Step settings codec sender honest h origins fs e o = step settings codec sender honest h origins fs law holds e o network.0 in (
         kept_rightly settings codec sender h origins holds.newest holds.kept keeps,
-        rightly_step settings codec sender h origins honest holds.newest keeps e o network.0,
-        takes_from es (e ∷ h) (o ∷ origins) os s.after s.holds (keeps_step settings codec sender h origins honest holds.newest keeps e o network.0) network.1,
+        rightly_step settings codec sender h origins law honest holds.newest keeps e o network.0,
+        takes_from es (e ∷ h) (o ∷ origins) os s.after s.holds (keeps_step settings codec sender h origins law honest holds.newest keeps e o network.0) network.1,
       )
 
 -- every honest call takes and keeps rightly
-pub honest_taken : HonestTakenHolds
-honest_taken settings codec sender events origins honest network = takes_from settings codec sender honest events [] [] origins [] (first_holds settings codec sender honest) (first_keeps settings codec sender) network
+pub honest_taken : ReadsPacket → HonestTakenHolds
+honest_taken law settings codec sender events origins honest network = takes_from law settings codec sender honest events [] [] origins [] (first_holds settings codec sender honest) (first_keeps settings codec sender) network

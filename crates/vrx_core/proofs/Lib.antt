@@ -7,6 +7,7 @@ pub mod AsideLemmas
 pub mod FormLemmas
 pub mod FrameLemmas
 pub mod FrontLemmas
+pub mod HandledLemmas
 pub mod HeldLemmas
 pub mod HoldsLemmas
 pub mod HonestLemmas
@@ -29,3 +30,4 @@ pub mod SearchLemmas
 pub mod SoundLemmas
 pub mod StandsLemmas
 pub mod TakenLemmas
+pub mod TextLemmas

@@ -26,8 +26,8 @@ some_there P None p = absurd p
 some_there P (Some x) p = (x, refl, p)
 
 -- the text of a packet
-abbrev pub text_in : SentPacket → List ℕ
-text_in (Media f k text) = text
+abbrev pub text_sent : SentPacket → List ℕ
+text_sent (Media f k text) = text
 
 module _ (settings : Settings) (codec : Meaning) (sender : Sender) where
   -- the part at a place among those of a frame

@@ -12,7 +12,7 @@ use Rattle.vrx_core.specs.Machine.{Snapshot, latest, last_pulled, next_frame, af
 use Rattle.vrx_core.specs.Passed.{PassedStaysHolds, NonePassedHolds}
 use Rattle.vrx_core.specs.declared.settings.Settings.{Settings}
 use Rattle.vrx_core.specs.declared.event.Event.{Event}
-use Rattle.vrx_core.specs.declared.event.Event.TheVariants.{Datagram, Pull}
+use Rattle.vrx_core.specs.declared.event.Event.TheVariants.{Datagram, Tick, Pull}
 use Rattle.vrx_core.specs.declared.form.NotTaken.{NotTaken}
 use Rattle.vrx_core.specs.declared.reply.Frame.{Frame}
 
@@ -58,6 +58,7 @@ has_none settings codec [] is = refl
 has_none settings codec (Datagram moment octets ∷ h) is =
     let s : Snapshot = latest (snapshots settings codec h) in
     datagram_none s moment (verdict settings s.newest s.packets octets) (has_none settings codec h) is
+has_none settings codec (Tick moment ∷ h) is = has_none settings codec h is
 has_none settings codec (Pull moment ∷ h) is =
     let past : List Snapshot = snapshots settings codec h in
     pull_none (latest past) moment (next_frame codec past) (has_none settings codec h) is
@@ -78,6 +79,7 @@ unfolding snapshots
 passed_stays settings codec h (Datagram moment octets) n passed =
     let s : Snapshot = latest (snapshots settings codec h) in
     datagram_passed s moment (verdict settings s.newest s.packets octets) n (has_none settings codec h) passed
+passed_stays settings codec h (Tick moment) n passed = passed
 passed_stays settings codec h (Pull moment) n passed =
     let past : List Snapshot = snapshots settings codec h in
     pull_passed (latest past) moment (next_frame codec past) n passed

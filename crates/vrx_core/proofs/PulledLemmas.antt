@@ -14,7 +14,7 @@ use Rattle.vrx_core.specs.Machine.{Snapshot, latest, last_pulled, frame_of, next
 use Rattle.vrx_core.specs.PulledRise.{Rise, PulledRiseHolds}
 use Rattle.vrx_core.specs.declared.settings.Settings.{Settings}
 use Rattle.vrx_core.specs.declared.event.Event.{Event}
-use Rattle.vrx_core.specs.declared.event.Event.TheVariants.{Datagram, Pull}
+use Rattle.vrx_core.specs.declared.event.Event.TheVariants.{Datagram, Tick, Pull}
 use Rattle.vrx_core.specs.declared.form.NotTaken.{NotTaken}
 use Rattle.vrx_core.specs.declared.reply.Frame.{Frame}
 use Rattle.vrx_core.specs.IsRun.{IsRun}
@@ -71,6 +71,7 @@ pulled_rise settings codec [] = tt
 pulled_rise settings codec (Datagram moment octets ∷ h) =
     let s : Snapshot = latest (snapshots settings codec h) in
     subst Rise (sym (datagram_pulled s moment (verdict settings s.newest s.packets octets))) (pulled_rise settings codec h)
+pulled_rise settings codec (Tick moment ∷ h) = pulled_rise settings codec h
 pulled_rise settings codec (Pull moment ∷ h) =
     let past : List Snapshot = snapshots settings codec h in
     pull_rises (latest past) moment (next_frame codec past) (λ frame is. given-rises codec past frame is) (pulled_rise settings codec h)

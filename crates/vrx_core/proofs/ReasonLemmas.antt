@@ -1,79 +1,86 @@
 -- When a datagram is taken, and when each reason refuses it.
-use Rattle.std.proofs.Common.{◌≡◌, ℕ, ◌+◌, ◌<◌, ◌≤◌, Bool, true, false, List, All, Option, Some, None, is_some, IfSome, IsSomeAnd, Result, Ok, Err, ok_or, option_and_then, refl, sym, ◌∙◌, ap, subst}
+use Rattle.std.proofs.Common.{◌≡◌, ◌↔◌, ℕ, ◌+◌, ◌*◌, ◌<◌, ◌≤◌, arith, Bool, true, false, List, All, Option, Some, None, is_some, IfSome, IsSomeAnd, Result, Ok, Err, ok_or, option_and_then, refl, sym, ◌∙◌, ap, subst}
 use Rattle.std.proofs.lemmas.Bool.{both_ways, leb-true, le-leb, false_from_ne_true, true≢false}
 use Rattle.vrx_num.specs.Extended.{IsHalfAway, extended}
 use Rattle.vrx_num.proofs.ExtendedLemmas.{extended-none, extended-half_away}
-use Rattle.vrx_rtp.specs.Packet.{Packet}
-use Rattle.vrx_rtp.specs.Reading.{read}
+use Rattle.vrx_rtp.specs.Packet.{Packet, AreOctets}
+use Rattle.vrx_rtp.specs.Reading.{reading, read}
 use Rattle.vrx_core.specs.Form.{aside, is_aside}
+use Rattle.vrx_core.specs.Text.{text_in}
 use Rattle.vrx_core.specs.Window.{Content, Media, Packets, is_available}
 use Rattle.vrx_core.specs.Verdict.{refused, number_of, is_too_old, verdict, ◌>>=◌, ◌>>◌}
-use Rattle.vrx_core.specs.Reasons.{IsBelow, MeansAside, Means, ReasonsHolds}
+use Rattle.vrx_core.specs.Reasons.{IsBelow, MeansAside, Means, MeansAnswer, ReasonsHolds}
 use Rattle.vrx_core.specs.declared.settings.Settings.{Settings}
 use Rattle.vrx_core.specs.declared.form.NotTaken.{NotTaken}
+use Rattle.vrx_core.specs.Machine.{what_of}
+use Rattle.vrx_core.specs.StandsFor.{Parts}
+use Rattle.vrx_core.specs.Step.{IsSound}
+use Rattle.vrx_core.specs.declared.reply.What.{What}
+use Rattle.vrx_core.specs.declared.reply.What.TheVariants as whats
 use Rattle.vrx_core.specs.declared.reply.Reason.TheVariants.{TooLong, BadRtcp, NotRtp, BadHeader, OtherSsrc, OtherType, NoApt, RtxEmpty, MoreBlocks, BadRed, BadFec, BadPart, Form, TooFar, TooOld, Dead, Repeat}
 use Rattle.vrx_core.specs.declared.form.NotTaken.TheVariants.{Control, Refused}
 use Rattle.vrx_core.proofs.AsideLemmas.{aside-to, aside-from}
+use Rattle.vrx_core.proofs.TextLemmas.{ReadsPacket, reading-ok, text_in-to, text_in-from}
 use Rattle.vrx_core.proofs.FormLemmas.{IsTakenPacket, taken_packet}
 
 -- the table, over any answers to its questions
 abbrev table : List ℕ → Option NotTaken → Option ℕ → (ℕ → Bool) → (ℕ → Bool) → Result (ℕ × Content) NotTaken
-table octets left number old again = do
+table text left number old again = do
   left
   n ← ok_or number (Refused TooFar)
   refused TooOld (old n)
   refused Repeat (again n)
-  Ok (n, Media octets)
+  Ok (n, Media text)
 
 -- the table's last two rows
 abbrev last_two : List ℕ → ℕ → Bool → Bool → Result (ℕ × Content) NotTaken
-last_two octets n old again = refused TooOld old >> (refused Repeat again >> Ok (n, Media octets))
+last_two text n old again = refused TooOld old >> (refused Repeat again >> Ok (n, Media text))
 
 -- what each verdict says of the answers, where the octets get none by themselves
 abbrev Says : List ℕ → Option ℕ → (ℕ → Bool) → (ℕ → Bool) → Result (ℕ × Content) NotTaken → Type 0
-Says octets number old again (Err (Refused TooFar)) = number ≡ None
-Says octets number old again (Err (Refused TooOld)) = (n : ℕ) × (number ≡ Some n) × (old n ≡ true)
-Says octets number old again (Err (Refused Repeat)) = (n : ℕ) × (number ≡ Some n) × (old n ≡ false) × (again n ≡ true)
-Says octets number old again (Err _) = ⊥
-Says octets number old again (Ok (n, content)) = (number ≡ Some n) × (old n ≡ false) × (again n ≡ false) × (content ≡ Media octets)
+Says text number old again (Err (Refused TooFar)) = number ≡ None
+Says text number old again (Err (Refused TooOld)) = (n : ℕ) × (number ≡ Some n) × (old n ≡ true)
+Says text number old again (Err (Refused Repeat)) = (n : ℕ) × (number ≡ Some n) × (old n ≡ false) × (again n ≡ true)
+Says text number old again (Err _) = ⊥
+Says text number old again (Ok (n, content)) = (number ≡ Some n) × (old n ≡ false) × (again n ≡ false) × (content ≡ Media text)
 
 -- the table's verdict says what is so, with a number
-says_last : (octets : List ℕ) (n : ℕ) (old again : ℕ → Bool) (too_old repeat : Bool) → old n ≡ too_old → again n ≡ repeat → Says octets (Some n) old again (last_two octets n too_old repeat)
-says_last octets n old again true repeat is_old is_again = (n, refl, is_old)
-says_last octets n old again false true is_old is_again = (n, refl, is_old, is_again)
-says_last octets n old again false false is_old is_again = (refl, is_old, is_again, refl)
+says_last : (text : List ℕ) (n : ℕ) (old again : ℕ → Bool) (too_old repeat : Bool) → old n ≡ too_old → again n ≡ repeat → Says text (Some n) old again (last_two text n too_old repeat)
+says_last text n old again true repeat is_old is_again = (n, refl, is_old)
+says_last text n old again false true is_old is_again = (n, refl, is_old, is_again)
+says_last text n old again false false is_old is_again = (refl, is_old, is_again, refl)
 
 -- the table's verdict says what is so
-says : (octets : List ℕ) (number : Option ℕ) (old again : ℕ → Bool) → Says octets number old again (table octets None number old again)
-says octets None old again = refl
-says octets (Some n) old again = says_last octets n old again (old n) (again n) refl refl
+says : (text : List ℕ) (number : Option ℕ) (old again : ℕ → Bool) → Says text number old again (table text None number old again)
+says text None old again = refl
+says text (Some n) old again = says_last text n old again (old n) (again n) refl refl
 
 -- the table, where there is a number
-table_last : (octets : List ℕ) (number : Option ℕ) (old again : ℕ → Bool) (n : ℕ) → number ≡ Some n → table octets None number old again ≡ last_two octets n (old n) (again n)
-table_last octets number old again n is = ap (λ o. table octets None o old again) is
+table_last : (text : List ℕ) (number : Option ℕ) (old again : ℕ → Bool) (n : ℕ) → number ≡ Some n → table text None number old again ≡ last_two text n (old n) (again n)
+table_last text number old again n is = ap (λ o. table text None o old again) is
 
 -- where it says what is so, a verdict is the table's
-is_said : (octets : List ℕ) (number : Option ℕ) (old again : ℕ → Bool) (r : Result (ℕ × Content) NotTaken) → Says octets number old again r → table octets None number old again ≡ r
-is_said octets number old again (Err (Refused TooFar)) s = ap (λ o. table octets None o old again) s
-is_said octets number old again (Err (Refused TooOld)) s = table_last octets number old again s.0 s.1 ∙ ap (λ b. last_two octets s.0 b (again s.0)) s.2
-is_said octets number old again (Err (Refused Repeat)) s = table_last octets number old again s.0 s.1 ∙ ap (λ b. last_two octets s.0 b (again s.0)) s.2 ∙ ap (λ b. last_two octets s.0 false b) s.3
-is_said octets number old again (Err (Refused TooLong)) s = absurd s
-is_said octets number old again (Err (Refused BadRtcp)) s = absurd s
-is_said octets number old again (Err Control) s = absurd s
-is_said octets number old again (Err (Refused NotRtp)) s = absurd s
-is_said octets number old again (Err (Refused BadHeader)) s = absurd s
-is_said octets number old again (Err (Refused OtherSsrc)) s = absurd s
-is_said octets number old again (Err (Refused OtherType)) s = absurd s
-is_said octets number old again (Err (Refused Form)) s = absurd s
-is_said octets number old again (Err (Refused NoApt)) s = absurd s
-is_said octets number old again (Err (Refused RtxEmpty)) s = absurd s
-is_said octets number old again (Err (Refused MoreBlocks)) s = absurd s
-is_said octets number old again (Err (Refused BadRed)) s = absurd s
-is_said octets number old again (Err (Refused BadFec)) s = absurd s
-is_said octets number old again (Err (Refused (BadPart code))) s = absurd s
-is_said octets number old again (Err (Refused Dead)) s = absurd s
-is_said octets number old again (Ok (n, content)) s =
-    table_last octets number old again n s.0 ∙ ap (λ b. last_two octets n b (again n)) s.1 ∙ ap (λ b. last_two octets n false b) s.2 ∙ ap ok_with (sym s.3) where
+is_said : (text : List ℕ) (number : Option ℕ) (old again : ℕ → Bool) (r : Result (ℕ × Content) NotTaken) → Says text number old again r → table text None number old again ≡ r
+is_said text number old again (Err (Refused TooFar)) s = ap (λ o. table text None o old again) s
+is_said text number old again (Err (Refused TooOld)) s = table_last text number old again s.0 s.1 ∙ ap (λ b. last_two text s.0 b (again s.0)) s.2
+is_said text number old again (Err (Refused Repeat)) s = table_last text number old again s.0 s.1 ∙ ap (λ b. last_two text s.0 b (again s.0)) s.2 ∙ ap (λ b. last_two text s.0 false b) s.3
+is_said text number old again (Err (Refused TooLong)) s = absurd s
+is_said text number old again (Err (Refused BadRtcp)) s = absurd s
+is_said text number old again (Err Control) s = absurd s
+is_said text number old again (Err (Refused NotRtp)) s = absurd s
+is_said text number old again (Err (Refused BadHeader)) s = absurd s
+is_said text number old again (Err (Refused OtherSsrc)) s = absurd s
+is_said text number old again (Err (Refused OtherType)) s = absurd s
+is_said text number old again (Err (Refused Form)) s = absurd s
+is_said text number old again (Err (Refused NoApt)) s = absurd s
+is_said text number old again (Err (Refused RtxEmpty)) s = absurd s
+is_said text number old again (Err (Refused MoreBlocks)) s = absurd s
+is_said text number old again (Err (Refused BadRed)) s = absurd s
+is_said text number old again (Err (Refused BadFec)) s = absurd s
+is_said text number old again (Err (Refused (BadPart code))) s = absurd s
+is_said text number old again (Err (Refused Dead)) s = absurd s
+is_said text number old again (Ok (n, content)) s =
+    table_last text number old again n s.0 ∙ ap (λ b. last_two text n b (again n)) s.1 ∙ ap (λ b. last_two text n false b) s.2 ∙ ap ok_with (sym s.3) where
       ok_with : Content → Result (ℕ × Content) NotTaken
       ok_with c = Ok (n, c)
 
@@ -123,10 +130,10 @@ absent (Some left) h = absurd (true≢false h)
 module _ (settings : Settings) (newest : Option ℕ) (packets : Packets) (octets : List ℕ) (octet : All (λ octet. octet < 256) octets) (from : IfSome newest (λ m. 32768 ≤ m)) (below : IfSome (read octets) (λ packet. packet.seq < 65536)) where
   -- what a verdict says of the answers
   abbrev SaysHere : Result (ℕ × Content) NotTaken → Type 0
-  SaysHere r = Says octets (number_of newest octets) (is_too_old newest) (λ n. is_available n packets) r
+  SaysHere r = Says (text_in octets) (number_of newest octets) (is_too_old newest) (λ n. is_available n packets) r
 
   abbrev here : Option NotTaken → Result (ℕ × Content) NotTaken
-  here left = table octets left (number_of newest octets) (is_too_old newest) (λ n. is_available n packets)
+  here left = table (text_in octets) left (number_of newest octets) (is_too_old newest) (λ n. is_available n packets)
 
   -- where octets get no answer by themselves, it is what the verdict means
   means-from : is_aside settings octets ≡ false → (r : Result (ℕ × Content) NotTaken) → SaysHere r → Means settings newest packets octets r
@@ -148,7 +155,7 @@ module _ (settings : Settings) (newest : Option ℕ) (packets : Packets) (octets
   means-from free (Err (Refused BadFec)) s = absurd s
   means-from free (Err (Refused (BadPart code))) s = absurd s
   means-from free (Err (Refused Dead)) s = absurd s
-  means-from free (Ok (n, content)) s = (record { form = free; number = s.0 }, not_below-to newest n s.1, s.2, s.3)
+  means-from free (Ok (n, content)) s = (record { form = free; number = s.0 }, not_below-to newest n s.1, s.2, text_in-to newest (read octets) n content s.0 s.3)
 
   -- an answer that octets get by themselves is what the verdict means
   means-aside : (left : NotTaken) → MeansAside settings octets left → Means settings newest packets octets (Err left)
@@ -173,12 +180,12 @@ module _ (settings : Settings) (newest : Option ℕ) (packets : Packets) (octets
 
   -- the verdict is what it means
   means_by : (left : Option NotTaken) → aside settings octets ≡ left → Means settings newest packets octets (here left)
-  means_by None is = means-from (ap is_some is) (here None) (says octets (number_of newest octets) (is_too_old newest) (λ n. is_available n packets))
+  means_by None is = means-from (ap is_some is) (here None) (says (text_in octets) (number_of newest octets) (is_too_old newest) (λ n. is_available n packets))
   means_by (Some left) is = means-aside left (aside-to settings octets octet left is)
 
   -- where octets get no answer by themselves, what is said is the verdict
   free-is : is_aside settings octets ≡ false → (r : Result (ℕ × Content) NotTaken) → SaysHere r → verdict settings newest packets octets ≡ r
-  free-is free r s = ap here (absent (aside settings octets) free) ∙ is_said octets (number_of newest octets) (is_too_old newest) (λ n. is_available n packets) r s
+  free-is free r s = ap here (absent (aside settings octets) free) ∙ is_said (text_in octets) (number_of newest octets) (is_too_old newest) (λ n. is_available n packets) r s
 
   -- where they get one, that is the verdict
   aside-is : (left : NotTaken) → MeansAside settings octets left → verdict settings newest packets octets ≡ Err left
@@ -204,11 +211,44 @@ module _ (settings : Settings) (newest : Option ℕ) (packets : Packets) (octets
   means-to (Err (Refused BadFec)) m = aside-is (Refused BadFec) m
   means-to (Err (Refused (BadPart code))) m = aside-is (Refused (BadPart code)) m
   means-to (Err (Refused Dead)) m = aside-is (Refused Dead) m
-  means-to (Ok (n, content)) m = free-is m.0.form (Ok (n, content)) (m.0.number, not_below-from newest n m.1, m.2, m.3)
+  means-to (Ok (n, content)) m = free-is m.0.form (Ok (n, content)) (m.0.number, not_below-from newest n m.1, m.2, text_in-from (read octets) content m.3)
+
+-- a wire number has 16 bits
+wire-below : (reads : ReadsPacket) (octets : List ℕ) → AreOctets octets → IfSome (read octets) (λ packet. packet.seq < 65536)
+wire-below reads octets octet = by_read (read octets) refl where
+  by_read : (o : Option Packet) → read octets ≡ o → IfSome o (λ packet. packet.seq < 65536)
+  by_read None is = tt
+  by_read (Some packet) is = ((reads octets packet octet).0 (reading-ok (reading octets) packet is)).fits.seq
 
 -- a verdict comes exactly where its meaning holds
-pub reasons_mean : ReasonsHolds
-reasons_mean settings newest packets octets octet from below result = (
+pub reasons_mean : ReadsPacket → ReasonsHolds
+reasons_mean reads settings newest packets octets octet from result = let below = wire-below reads octets octet in (
   λ is. subst (Means settings newest packets octets) is (means_by settings newest packets octets octet from below (aside settings octets) refl),
   means-to settings newest packets octets octet from below result,
 )
+
+-- an answer comes exactly where its meaning holds
+pub answers_mean : (law : ReasonsHolds) (settings : Settings) (newest : Option ℕ) (packets : Packets) (octets : List ℕ) → AreOctets octets → IfSome newest (λ m. 32768 ≤ m)
+    → (given : What) → given ≡ what_of (verdict settings newest packets octets) → (what : What) → (given ≡ what) ↔ MeansAnswer settings newest packets octets what
+answers_mean law settings newest packets octets octet from given is what = (λ same. to (verdict settings newest packets octets) refl what (sym is ∙ same), λ m. is ∙ back what m) where
+  holds : (result : Result (ℕ × Content) NotTaken) → (verdict settings newest packets octets ≡ result) ↔ Means settings newest packets octets result
+  holds result = law settings newest packets octets octet from result
+
+  to : (result : Result (ℕ × Content) NotTaken) → verdict settings newest packets octets ≡ result → (w : What) → what_of result ≡ w → MeansAnswer settings newest packets octets w
+  to (Ok (n, content)) v w same = subst (MeansAnswer settings newest packets octets) same (content, (holds (Ok (n, content))).0 v)
+  to (Err Control) v w same = subst (MeansAnswer settings newest packets octets) same ((holds (Err Control)).0 v)
+  to (Err (Refused reason)) v w same = subst (MeansAnswer settings newest packets octets) same ((holds (Err (Refused reason))).0 v)
+
+  back : (w : What) → MeansAnswer settings newest packets octets w → what_of (verdict settings newest packets octets) ≡ w
+  back (whats.Media n) (content, m) = ap what_of ((holds (Ok (n, content))).1 m)
+  back whats.Rtcp m = ap what_of ((holds (Err Control)).1 m)
+  back (whats.Dropped reason) m = ap what_of ((holds (Err (Refused reason))).1 m)
+  back (whats.Fec n) m = absurd m
+  back (whats.Empty n) m = absurd m
+
+-- the newest number of an engine lies beyond half of the number space
+pub newest-beyond : (parts : Parts) → IsSound parts → IfSome parts.newest (λ m. 32768 ≤ m)
+newest-beyond parts sound = by_newest parts.newest sound.reach where
+  by_newest : (o : Option ℕ) → IfSome o (λ newest. (65536 ≤ newest) × (newest ≤ 131072 + 32768 * parts.events)) → IfSome o (λ m. 32768 ≤ m)
+  by_newest None reach = tt
+  by_newest (Some m) reach = omega (arith, reach.0)

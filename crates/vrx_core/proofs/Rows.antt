@@ -1,10 +1,10 @@
 -- The machine and the payload descriptor on rows worked by hand.
 use Rattle.std.specs.Prelude.{◌≡◌, ℕ, true, false, List, [], ◌∷◌, refl, Some, None, Ok, Err}
-use Rattle.vrx_core.specs.Machine.{handled_as, ToDatagram, ToPull, replies, reply, snapshots}
+use Rattle.vrx_core.specs.Machine.{handled_as, ToDatagram, ToTick, ToPull, no_feedback, replies, reply, snapshots}
 use Rattle.vrx_codec.specs.declared.part.Start.TheVariants.{Yes}
 use Rattle.vrx_vp8.specs.Descriptor.{read_part, vp8}
 use Rattle.vrx_core.specs.declared.settings.Settings.{Settings}
-use Rattle.vrx_core.specs.declared.event.Event.TheVariants.{Datagram, Pull}
+use Rattle.vrx_core.specs.declared.event.Event.TheVariants.{Datagram, Tick, Pull}
 use Rattle.vrx_core.specs.declared.reply.What.TheVariants.{Media, Dropped}
 use Rattle.vrx_core.specs.declared.reply.Reason.TheVariants.{TooFar, TooOld, Repeat}
 use Rattle.vrx_core.specs.declared.reply.Pulled.TheVariants.{NotReady, Frame}
@@ -31,6 +31,12 @@ no_event = refl
 pub pull_alone : replies settings vp8 [] (Pull 0 ∷ []) ≡ ToPull NotReady ∷ []
 unfolding replies reply snapshots
 pull_alone = refl
+
+-- a tick between them changes nothing of what a pull gives
+pub with_ticks : replies settings vp8 [] (Tick 0 ∷ Datagram 0 keyframe ∷ Tick 5 ∷ Pull 1 ∷ Tick 2 ∷ [])
+    ≡ ToTick no_feedback ∷ ToDatagram (handled_as (Media 65537)) ∷ ToTick no_feedback ∷ ToPull (Frame (record { first = 65537; last = 65537; ts = 0; key = true; bytes = 0 ∷ 170 ∷ [] })) ∷ ToTick no_feedback ∷ []
+unfolding replies reply snapshots
+with_ticks = refl
 
 -- the keyframe's packet under another sequence number, by its two octets
 abbrev numbered : ℕ → ℕ → List ℕ

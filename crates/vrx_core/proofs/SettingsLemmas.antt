@@ -168,3 +168,20 @@ told-fault settings fault other is means = (λ e. means.0 (is ∙ ap Some (same_
 pub told-none : {T P : Type 0} (settings : Settings) (r : Result T NewFault) (other : NewFault) → fault_of settings ≡ None → IfErr r (λ fault. fault ≡ NoMemory) → NoMemory ≢ other → (fault_of settings ≡ Some other) ↔ P → IsErrOf r other ↔ P
 told-none settings (Ok x) other is memory apart means = (λ e. cc, λ p. absurd (none-some other (sym is ∙ means.1 p)))
 told-none settings (Err fault) other is memory apart means = (λ e. absurd (apart (sym memory ∙ same_Err fault other e)), λ p. absurd (none-some other (sym is ∙ means.1 p)))
+
+-- want of memory is no fault of settings
+not_first : (test : Bool) (fault : NewFault) (others : Option NewFault) → (fault ≡ NoMemory → ⊥) → first_of test fault others ≡ Some NoMemory → others ≡ Some NoMemory
+not_first true fault others other is = absurd (other (same_Some _ _ is))
+not_first false fault others other is = is
+
+never-memory : (settings : Settings) → fault_of settings ≡ Some NoMemory → ⊥
+never-memory settings is = none-some NoMemory (
+    not_first (is_later settings) Later None (λ e. cc) (
+    not_first (is_bad_interval settings.interval) BadInterval _ (λ e. cc) (
+    not_first (lacks_red settings) RedMissing _ (λ e. cc) (
+    not_first (has_equal (ssrcs_of settings)) SameSsrc _ (λ e. cc) (
+    not_first (has_equal (types_of settings)) SameType _ (λ e. cc) (
+    not_first (list_any is_bad_type (types_of settings)) BadType _ (λ e. cc) is))))))
+
+pub never-fault : {T : Type 0} (settings : Settings) (fault : NewFault) → fault_of settings ≡ Some fault → IsErrOf {T = T} (Err fault) NoMemory → ⊥
+never-fault settings fault is told = never-memory settings (is ∙ ap Some (same_Err fault NoMemory told))

@@ -58,10 +58,10 @@ sound-counted parts moment sound few = record { sorted = sound.sorted; taken = s
   later None h = h
   later (Some m) h = (h.0, omega (arith, h.1))
 
-pub sound-taken : (parts : Parts) (moment n : ℕ) (octets : List ℕ) → IsSound parts → parts.events < 1048576 → is_aside parts.settings octets ≡ false → Reaches parts.newest parts.events n → IsSound (with_datagram parts moment (Ok (n, Media octets)))
-sound-taken parts moment n octets sound few form reach = record {
-  sorted = sorted-placed (newest_with parts.newest n) n (Media octets) parts.packets sound.sorted;
-  taken = taken-put parts.settings n (Media octets) _ (octets, refl, form) (taken-where parts.settings _ parts.packets sound.taken);
+pub sound-taken : (parts : Parts) (moment n : ℕ) (text : List ℕ) → IsSound parts → parts.events < 1048576 → is_aside parts.settings text ≡ false → Reaches parts.newest parts.events n → IsSound (with_datagram parts moment (Ok (n, Media text)))
+sound-taken parts moment n text sound few form reach = record {
+  sorted = sorted-placed (newest_with parts.newest n) n (Media text) parts.packets sound.sorted;
+  taken = taken-put parts.settings n (Media text) _ (text, refl, form) (taken-where parts.settings _ parts.packets sound.taken);
   few = omega arith;
   reach = (reach.newest_least, reach.newest_most);
 }
@@ -71,12 +71,12 @@ module _ (settings : Settings) (events clock later : ℕ) (newest last : Option 
   pub sound-refused : IsSound (parts_of settings events clock newest packets last) → events < 1048576 → IsSound (parts_of settings (events + 1) later newest packets last)
   sound-refused sound few = let s : IsSound (counted (parts_of settings events clock newest packets last) later) = sound-counted _ later sound few in record { sorted = s.sorted; taken = s.taken; few = s.few; reach = s.reach }
 
-  pub sound-held : (n m : ℕ) (octets text : List ℕ) (newest' : Option ℕ) (packets' : Packets) → IsSound (parts_of settings events clock newest packets last) → events < 1048576 → is_aside settings octets ≡ false
-      → MatchOption newest ((65536 ≤ n) × (n < 131072)) (λ top. (top < n + 32768) × (n < top + 32768)) → newest' ≡ greater newest n → m ≡ newest_with newest n → text ≡ octets → packets' ≡ placed m n (Media text) packets
+  pub sound-held : (n m : ℕ) (text : List ℕ) (newest' : Option ℕ) (packets' : Packets) → IsSound (parts_of settings events clock newest packets last) → events < 1048576 → is_aside settings text ≡ false
+      → MatchOption newest ((65536 ≤ n) × (n < 131072)) (λ top. (top < n + 32768) × (n < top + 32768)) → newest' ≡ greater newest n → m ≡ newest_with newest n → packets' ≡ placed m n (Media text) packets
       → IsSound (parts_of settings (events + 1) later newest' packets' last)
-  sound-held n m octets text newest' packets' sound few form near greater_is most_is text_is placed_is =
-      let s : IsSound (with_datagram (parts_of settings events clock newest packets last) later (Ok (n, Media octets))) = sound-taken _ later n octets sound few form (reaches newest events n few sound.reach near) in
-      let there : packets' ≡ placed (newest_with newest n) n (Media octets) packets = placed_is ∙ ap (λ k. placed k n (Media text) packets) most_is ∙ ap (λ t. placed (newest_with newest n) n (Media t) packets) text_is in
+  sound-held n m text newest' packets' sound few form near greater_is most_is placed_is =
+      let s : IsSound (with_datagram (parts_of settings events clock newest packets last) later (Ok (n, Media text))) = sound-taken _ later n text sound few form (reaches newest events n few sound.reach near) in
+      let there : packets' ≡ placed (newest_with newest n) n (Media text) packets = placed_is ∙ ap (λ k. placed k n (Media text) packets) most_is in
       record {
         sorted = ap (is_sorted nat_cmp) there ∙ s.sorted;
         taken = subst (AreTaken settings) (sym there) s.taken;

@@ -11,12 +11,12 @@ use Rattle.vrx_core.specs.Verdict.{verdict}
 use Rattle.vrx_core.specs.Run.{runs}
 use Rattle.vrx_core.specs.Deliverable.{answer}
 use Rattle.vrx_core.specs.History.{now}
-use Rattle.vrx_core.specs.Machine.{handled_as, Reply, ToDatagram, ToPull, Snapshot, latest, last_pulled, frame_of, next_frame, pulled_of, after_datagram, after_pull, next, what_of, reply_now, grown, snapshots, reply}
+use Rattle.vrx_core.specs.Machine.{handled_as, Reply, ToDatagram, ToTick, ToPull, no_feedback, Snapshot, latest, last_pulled, frame_of, next_frame, pulled_of, after_datagram, after_pull, next, what_of, reply_now, grown, snapshots, reply}
 use Rattle.vrx_core.specs.StandsFor.{Parts, StandsFor, NoneDeliverable}
 use Rattle.vrx_core.specs.Step.{IsSound, IsHandled, parts_of, counted, with_datagram, with_pull, next_run, next_joined}
 use Rattle.vrx_core.specs.declared.settings.Settings.{Settings}
 use Rattle.vrx_core.specs.declared.event.Event.{Event}
-use Rattle.vrx_core.specs.declared.event.Event.TheVariants.{Datagram, Pull}
+use Rattle.vrx_core.specs.declared.event.Event.TheVariants.{Datagram, Tick, Pull}
 use Rattle.vrx_core.specs.declared.form.NotTaken.{NotTaken}
 use Rattle.vrx_core.specs.declared.reply.What.{What}
 use Rattle.vrx_core.specs.declared.reply.Frame.{Frame}
@@ -50,6 +50,7 @@ clock-is settings codec [] = refl
 clock-is settings codec (Datagram moment octets ∷ h) =
     let s : Snapshot = latest (snapshots settings codec h) in
     datagram_now s moment (verdict settings s.newest s.packets octets) ∙ ap (λ c. max c moment) (clock-is settings codec h)
+clock-is settings codec (Tick moment ∷ h) = ap (λ c. max c moment) (clock-is settings codec h)
 clock-is settings codec (Pull moment ∷ h) =
     let past : List Snapshot = snapshots settings codec h in
     pull_now (latest past) moment (next_frame codec past) ∙ ap (λ c. max c moment) (clock-is settings codec h)
@@ -127,6 +128,18 @@ datagram-refused parts after moment octets what handled refused = handled.leaves
   alone : (v : Result (ℕ × Content) NotTaken) → IsErr v → with_datagram parts moment v ≡ counted parts moment
   alone (Err reason) h = refl
   alone (Ok taken) h = absurd (true≢false (sym h))
+
+-- a tick: the engine stands for the history with it
+pub tick-stands : (parts after : Parts) (moment : ℕ) (h : List Event) → after ≡ counted parts moment → StandsFor vp8 parts h → StandsFor vp8 after (Tick moment ∷ h)
+tick-stands parts after moment h left stands =
+    let shows : Shows parts (latest (snapshots parts.settings vp8 h)) (length h) = shows-from parts h stands in
+    subst (λ a. StandsFor vp8 a (Tick moment ∷ h)) (sym left)
+    (stands-from parts (counted parts moment) h (Tick moment) refl
+    (record { events = add-one parts.events ∙ ap suc shows.events; clock = ap (λ c. max c moment) shows.clock; newest = shows.newest; packets = shows.packets; last_pulled = shows.last_pulled }))
+
+-- and the answer is the machine's
+pub tick-reply : (parts : Parts) (moment : ℕ) (h : List Event) → ToTick no_feedback ≡ reply parts.settings vp8 h (Tick moment)
+tick-reply parts moment h = sym (reply-is parts.settings vp8 h (Tick moment))
 
 -- what the engine hands out is the frame that a pull gives
 frame-is : (parts : Parts) (h : List Event) → IsSound parts → StandsFor vp8 parts h → next_joined parts.last_pulled parts.packets ≡ next_frame vp8 (snapshots parts.settings vp8 h)

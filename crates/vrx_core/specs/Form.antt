@@ -15,10 +15,10 @@ use Rattle.vrx_core.specs.declared.reply.Reason.{Reason}
 use Rattle.vrx_core.specs.declared.reply.Reason.TheVariants.{TooLong, BadRtcp, NotRtp, BadHeader, OtherSsrc, OtherType, Form}
 use Rattle.vrx_core.specs.declared.settings.Settings.{Settings}
 
--- a packet of the stream isn't taken so far: padding follows its payload; its payload has fewer than two octets; or bit X
--- of the payload's first octet is 1 (RFC 7741 4.2). The reason goes away once all forms are taken
+-- a packet of the stream isn't taken so far: its payload, which ends where the padding begins, has fewer than two octets,
+-- or bit X of the payload's first octet is 1 (RFC 7741 4.2). The reason goes away once all forms are taken
 abbrev pub is_form : Packet → Bool
-is_form packet = not (packet.padding == 0) || (nat_lt (length packet.payload) 2 || bit 128 (slice_index packet.payload 0))
+is_form packet = nat_lt (length packet.payload) 2 || bit 128 (slice_index packet.payload 0)
 
 -- why a packet is refused: its SSRC isn't the media SSRC; its payload type isn't the media type; or its form
 abbrev pub packet_reason : Settings → Packet → Option Reason

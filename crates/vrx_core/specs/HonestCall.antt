@@ -3,7 +3,7 @@ use Rattle.std.specs.Prelude.{◌≡◌, ℕ, ◌≤◌, true, List, [], ◌∷�
 use Rattle.std.specs.List.{filter_map}
 use Rattle.std.specs.List.Sorted.{IsStrictlyIncreasing}
 use Rattle.vrx_codec.specs.Meaning.{Meaning}
-use Rattle.vrx_core.specs.Machine.{Reply, ToDatagram, ToPull, replies}
+use Rattle.vrx_core.specs.Machine.{Reply, ToDatagram, ToTick, ToPull, replies}
 use Rattle.vrx_core.specs.Sender.{SentFrame, Sender}
 use Rattle.vrx_core.specs.Chain.{InChain}
 use Rattle.vrx_core.specs.HonestSender.{HonestSender}
@@ -11,7 +11,7 @@ use Rattle.vrx_core.specs.HonestNetwork.{Origin, HonestNetwork}
 use Rattle.vrx_core.specs.Ready.{Ready}
 use Rattle.vrx_core.specs.declared.settings.Settings.{Settings}
 use Rattle.vrx_core.specs.declared.event.Event.{Event}
-use Rattle.vrx_core.specs.declared.event.Event.TheVariants.{Datagram, Pull}
+use Rattle.vrx_core.specs.declared.event.Event.TheVariants.{Datagram, Tick, Pull}
 use Rattle.vrx_core.specs.declared.reply.Frame.{Frame}
 use Rattle.vrx_core.specs.declared.reply.Pulled.TheVariants as pulls
 
@@ -35,6 +35,7 @@ abbrev pub IsAnswer : Settings → Meaning → Sender → List Event → List Or
 IsAnswer settings codec sender h origins (Pull moment) (ToPull pulls.NotReady) None = (f : ℕ) → Ready settings codec sender h origins f → ⊥
 IsAnswer settings codec sender h origins (Pull moment) (ToPull (pulls.Frame frame)) (Some f) = IsLeastReady settings codec sender h origins frame f
 IsAnswer settings codec sender h origins (Datagram moment octets) (ToDatagram handled) None = Unit {0}
+IsAnswer settings codec sender h origins (Tick moment) (ToTick feedback) None = Unit {0}
 IsAnswer settings codec sender h origins _ _ _ = ⊥
 
 -- each of the events that follow a history is answered so, with the place of the frame that it gives, if it gives one
@@ -54,6 +55,7 @@ frames_of [] = []
 frames_of (ToPull (pulls.Frame frame) ∷ rs) = frame ∷ frames_of rs
 frames_of (ToPull pulls.NotReady ∷ rs) = frames_of rs
 frames_of (ToDatagram handled ∷ rs) = frames_of rs
+frames_of (ToTick feedback ∷ rs) = frames_of rs
 
 -- these frames are the sender's frames of these places
 abbrev pub AreSent : Sender → List ℕ → List Frame → Type 0

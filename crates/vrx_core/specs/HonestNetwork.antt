@@ -9,7 +9,7 @@ use Rattle.vrx_core.specs.Sender.{Sender}
 use Rattle.vrx_core.specs.WireForm.{IsWireForm}
 use Rattle.vrx_core.specs.declared.settings.Settings.{Settings}
 use Rattle.vrx_core.specs.declared.event.Event.{Event}
-use Rattle.vrx_core.specs.declared.event.Event.TheVariants.{Datagram, Pull}
+use Rattle.vrx_core.specs.declared.event.Event.TheVariants.{Datagram, Tick, Pull}
 
 -- where an event comes from: it brings the sender's packet i, or nothing of the sender's
 pub data Origin : Type 0 where
@@ -25,6 +25,7 @@ unfoldable pub taken : Settings → Meaning → List Event → List Origin → L
 taken settings codec [] origins = []
 taken settings codec (e ∷ h) [] = []
 taken settings codec (e ∷ h) (Elsewhere ∷ origins) = taken settings codec h origins
+taken settings codec (Tick moment ∷ h) (FromSender i ∷ origins) = taken settings codec h origins
 taken settings codec (Pull moment ∷ h) (FromSender i ∷ origins) = taken settings codec h origins
 taken settings codec (Datagram moment octets ∷ h) (FromSender i ∷ origins) = if takes settings codec h octets then i ∷ taken settings codec h origins else taken settings codec h origins
 
@@ -39,8 +40,10 @@ IsNear i [] = Unit {0}
 IsNear i (j ∷ js) = (i ≤ greatest (j ∷ js) + 32768) × (greatest (j ∷ js) ≤ i + 32768)
 
 -- what an honest network may bring after a history: a wire form of a packet of the sender, near those taken; or
--- octets that are RTCP or refused, whatever came before. A pull is free
+-- octets that are RTCP or refused, whatever came before. Ticks and pulls are free
 abbrev pub IsDelivery : Settings → Meaning → Sender → List Event → List Origin → Event → Origin → Type 0
+IsDelivery settings codec sender h origins (Tick moment) Elsewhere = Unit {0}
+IsDelivery settings codec sender h origins (Tick moment) (FromSender i) = ⊥
 IsDelivery settings codec sender h origins (Pull moment) Elsewhere = Unit {0}
 IsDelivery settings codec sender h origins (Pull moment) (FromSender i) = ⊥
 IsDelivery settings codec sender h origins (Datagram moment octets) Elsewhere = is_aside settings octets ≡ true

@@ -1,6 +1,6 @@
 -- An honest sender, for given settings and a codec. So far no frame has layers, and each packet is a part of a frame.
 use Rattle.std.specs.Prelude.{◌≡◌, ◌≢◌, ◌↔◌, ℕ, ◌+◌, ◌<◌, ◌≤◌, true, false, ◌==◌, if◌then◌else◌, List, [], ◌∷◌, map, length, slice_get, slice_index, All, Contains, Some, None, IfSome, Ok}
-use Rattle.vrx_rtp.specs.Packet.{Packet}
+use Rattle.vrx_rtp.specs.Packet.{Packet, AreOctets}
 use Rattle.vrx_rtp.specs.Reading.{read}
 use Rattle.vrx_codec.specs.Part.{Part}
 use Rattle.vrx_codec.specs.declared.part.Start.TheVariants.{Yes, No}
@@ -17,12 +17,13 @@ pub record Carried : Type 0 where
   pub packet : Packet
   pub part : Part
 
--- a media packet of the stream, under this sequence number: its text has at most 9,216 octets and reads as an RTP packet
--- without padding, with the media type and the media SSRC; its payload isn't empty and is read by the codec (RFC 3550
--- 5.1); and the text isn't RTCP (RFC 5761 4). So far the payload has two octets or more, and bit X of the first is 0 (RFC
--- 7741 4.2)
+-- a media packet of the stream, under this sequence number: its text has at most 9,216 octets, each below 256, and reads
+-- as an RTP packet without padding, with the media type and the media SSRC; its payload isn't empty and is read by the
+-- codec (RFC 3550 5.1); and the text isn't RTCP (RFC 5761 4). So far the payload has two octets or more, and bit X of
+-- the first is 0 (RFC 7741 4.2)
 pub record IsMedia (settings : Settings) (codec : Meaning) (wire : ℕ) (carried : Carried) : Type 0 where
   pub size : length carried.text ≤ 9216
+  pub below : AreOctets carried.text
   pub reads : read carried.text ≡ Some carried.packet
   pub no_padding : carried.packet.padding ≡ 0
   pub number : carried.packet.seq ≡ wire

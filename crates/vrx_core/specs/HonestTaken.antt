@@ -10,7 +10,7 @@ use Rattle.vrx_core.specs.HonestNetwork.{Origin, FromSender, Elsewhere, HonestNe
 use Rattle.vrx_core.specs.Ready.{IsNumber}
 use Rattle.vrx_core.specs.declared.settings.Settings.{Settings}
 use Rattle.vrx_core.specs.declared.event.Event.{Event}
-use Rattle.vrx_core.specs.declared.event.Event.TheVariants.{Datagram, Pull}
+use Rattle.vrx_core.specs.declared.event.Event.TheVariants.{Datagram, Tick, Pull}
 use Rattle.vrx_core.specs.declared.reply.What.TheVariants.{Media}
 
 -- packet i is one to take, after these packets were taken: no packet was, or it is none of them, fewer than 2,048
@@ -46,6 +46,7 @@ pub record TakesPacket (settings : Settings) (codec : Meaning) (sender : Sender)
 abbrev pub IsTakenRightly : Settings → Meaning → Sender → List Event → List Origin → Event → Origin → Type 0
 IsTakenRightly settings codec sender h origins (Datagram moment octets) (FromSender i) = TakesPacket settings codec sender h origins moment octets i
 IsTakenRightly settings codec sender h origins (Datagram moment octets) Elsewhere = Unit {0}
+IsTakenRightly settings codec sender h origins (Tick moment) origin = Unit {0}
 IsTakenRightly settings codec sender h origins (Pull moment) origin = Unit {0}
 
 -- after a history and after each of the events that follow it, the packets available are those to keep; and each event

@@ -1,4 +1,5 @@
 pub mod Window
+pub mod Text
 pub mod History
 pub mod SettingsFault
 pub mod Control

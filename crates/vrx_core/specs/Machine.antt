@@ -11,7 +11,7 @@ use Rattle.vrx_core.specs.Front.{front_after}
 use Rattle.vrx_core.specs.Deliverable.{answer}
 use Rattle.vrx_core.specs.declared.settings.Settings.{Settings}
 use Rattle.vrx_core.specs.declared.event.Event.{Event}
-use Rattle.vrx_core.specs.declared.event.Event.TheVariants.{Datagram, Pull}
+use Rattle.vrx_core.specs.declared.event.Event.TheVariants.{Datagram, Tick, Pull}
 use Rattle.vrx_core.specs.declared.form.NotTaken.{NotTaken}
 use Rattle.vrx_core.specs.declared.form.NotTaken.TheVariants.{Control, Refused}
 use Rattle.vrx_core.specs.declared.reply.What.{What}
@@ -24,6 +24,7 @@ use Rattle.vrx_core.specs.declared.reply.Pulled.TheVariants as pulls
 -- the reply to an event
 pub data Reply : Type 0 where
   ToDatagram : (handled : Handled) → Reply
+  ToTick : (feedback : Feedback) → Reply
   ToPull : (pulled : Pulled) → Reply
 
 -- no feedback is to be sent
@@ -79,6 +80,10 @@ after_datagram s moment (Err left) = record s { now = max s.now moment }
 after_datagram s moment (Ok (n, content)) = let newest : ℕ = newest_with s.newest n in
     with_front s.front (record s { now = max s.now moment; newest = Some newest; packets = placed newest n content s.packets })
 
+-- what a tick leaves: so far it moves the clock alone
+abbrev pub after_tick : Snapshot → ℕ → Snapshot
+after_tick s moment = record s { now = max s.now moment }
+
 -- what a pull leaves
 abbrev pub after_pull : Snapshot → ℕ → Option Frame → Snapshot
 after_pull s moment None = record s { now = max s.now moment }
@@ -86,6 +91,7 @@ after_pull s moment (Some frame) = with_front s.front (record s { now = max s.no
 
 abbrev pub next : Settings → Meaning → List Snapshot → Event → Snapshot
 next settings codec past (Datagram moment octets) = let s : Snapshot = latest past in after_datagram s moment (verdict settings s.newest s.packets octets)
+next settings codec past (Tick moment) = after_tick (latest past) moment
 next settings codec past (Pull moment) = after_pull (latest past) moment (next_frame codec past)
 
 -- the answer to a datagram that isn't taken
@@ -100,6 +106,7 @@ what_of (Ok taken) = Media taken.0
 
 abbrev pub reply_now : Settings → Meaning → List Snapshot → Event → Reply
 reply_now settings codec past (Datagram moment octets) = let s : Snapshot = latest past in ToDatagram (handled_as (what_of (verdict settings s.newest s.packets octets)))
+reply_now settings codec past (Tick moment) = ToTick no_feedback
 reply_now settings codec past (Pull moment) = ToPull (pulled_of (next_frame codec past))
 
 -- one snapshot more

@@ -1,7 +1,7 @@
 -- When a datagram is taken, and what becomes of it else.
 use Rattle.std.specs.Prelude.{◌≡◌, ◌≢◌, ◌↔◌, ◌⊎◌, ℕ, ◌+◌, ◌<◌, ◌≤◌, true, false, List, length, All, Option, Some, IfSome, IsSomeAnd, Result, Ok, Err}
 use Rattle.vrx_num.specs.Extended.{IsHalfAway}
-use Rattle.vrx_rtp.specs.Packet.{Packet}
+use Rattle.vrx_rtp.specs.Packet.{Packet, AreOctets}
 use Rattle.vrx_rtp.specs.Reading.{reading, read}
 use Rattle.vrx_rtp.specs.Rtcp.{IsRtcp}
 use Rattle.vrx_rtp.specs.declared.fault.RtpFault.{RtpFault}
@@ -10,11 +10,14 @@ use Rattle.vrx_rtp.specs.declared.fault.RtpFaultKind.TheVariants.{Short, Version
 use Rattle.vrx_rtcp.specs.Compound.{Spelled, IsCompound, HasFault}
 use Rattle.vrx_rtcp.specs.declared.fault.RtcpFault.{RtcpFault}
 use Rattle.vrx_core.specs.Form.{is_form, is_aside}
+use Rattle.vrx_core.specs.Text.{packet_text}
 use Rattle.vrx_core.specs.Window.{Content, Media, Packets, is_available}
 use Rattle.vrx_core.specs.Verdict.{number_of, verdict}
 use Rattle.vrx_core.specs.declared.settings.Settings.{Settings}
 use Rattle.vrx_core.specs.declared.form.NotTaken.{NotTaken}
 use Rattle.vrx_core.specs.declared.form.NotTaken.TheVariants.{Control, Refused}
+use Rattle.vrx_core.specs.declared.reply.What.{What}
+use Rattle.vrx_core.specs.declared.reply.What.TheVariants as whats
 use Rattle.vrx_core.specs.declared.reply.Reason.TheVariants.{TooLong, BadRtcp, NotRtp, BadHeader, OtherSsrc, OtherType, Form, TooFar, TooOld, Repeat}
 
 -- a datagram isn't too long, and is RTCP
@@ -84,11 +87,19 @@ Means settings newest packets octets (Err (Refused TooOld)) = (n : ℕ) × IsNum
 Means settings newest packets octets (Err (Refused Repeat)) = (n : ℕ) × IsNumbered settings newest octets n × (IsBelow newest n → ⊥) × (is_available n packets ≡ true)
 -- every other answer comes by the octets themselves
 Means settings newest packets octets (Err left) = MeansAside settings octets left
--- it has this extended number, which doesn't lie below the window and isn't available, and its octets are media
-Means settings newest packets octets (Ok (n, content)) = IsNumbered settings newest octets n × (IsBelow newest n → ⊥) × (is_available n packets ≡ false) × (content ≡ Media octets)
+-- it has this extended number, which doesn't lie below the window and isn't available, and its packet's text is media
+Means settings newest packets octets (Ok (n, content)) = IsNumbered settings newest octets n × (IsBelow newest n → ⊥) × (is_available n packets ≡ false) × IsSomeAnd (read octets) (λ packet. content ≡ Media (packet_text packet))
 
--- a verdict comes exactly where its meaning holds, of octets, which are below 256. No newest number lies so near to 0 that a
--- number nearer than half of the space would lie below 0, and a wire number has 16 bits
+-- what each answer to a datagram means. It is never told as FEC or as empty so far
+abbrev pub MeansAnswer : Settings → Option ℕ → Packets → List ℕ → What → Type 0
+MeansAnswer settings newest packets octets (whats.Media n) = (content : Content) × Means settings newest packets octets (Ok (n, content))
+MeansAnswer settings newest packets octets whats.Rtcp = Means settings newest packets octets (Err Control)
+MeansAnswer settings newest packets octets (whats.Dropped reason) = Means settings newest packets octets (Err (Refused reason))
+MeansAnswer settings newest packets octets (whats.Fec n) = ⊥
+MeansAnswer settings newest packets octets (whats.Empty n) = ⊥
+
+-- a verdict comes exactly where its meaning holds, of octets, each below 256. A newest number of 32,768 or more has no
+-- number below 0 nearer to it than half of the number space
 abbrev pub ReasonsHolds : Type 0
-ReasonsHolds = (settings : Settings) (newest : Option ℕ) (packets : Packets) (octets : List ℕ) → All (λ octet. octet < 256) octets → IfSome newest (λ m. 32768 ≤ m) → IfSome (read octets) (λ packet. packet.seq < 65536)
+ReasonsHolds = (settings : Settings) (newest : Option ℕ) (packets : Packets) (octets : List ℕ) → AreOctets octets → IfSome newest (λ m. 32768 ≤ m)
     → (result : Result (ℕ × Content) NotTaken) → (verdict settings newest packets octets ≡ result) ↔ Means settings newest packets octets result

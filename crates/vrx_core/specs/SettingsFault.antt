@@ -33,17 +33,22 @@ pub record HasEqual (members : List ℕ) : Type 0 where
   pub within : later < length members
   pub same : slice_index members earlier ≡ slice_index members later
 
--- what each fault says of settings, by itself: some type given is a bad one; two types given are equal; two SSRCs given
--- are equal; there is a type of RED in RTX packets, and no RED; the interval is 0 or above 60,000 milliseconds; RED or RTX
--- is given, which the receiver doesn't take so far. Want of memory says nothing of them
+-- what each fault says of settings, by itself
 abbrev pub Says : Settings → NewFault → Type 0
+-- some type given is a bad one
 Says settings BadType = Any IsBadType (types_of settings)
+-- two types given are equal
 Says settings SameType = HasEqual (types_of settings)
+-- two SSRCs given are equal
 Says settings SameSsrc = HasEqual (ssrcs_of settings)
+-- there is a type of RED in retransmissions, and no RED
 Says settings RedMissing = IsSome (option_and_then (λ rtx. rtx.red_rtx_type) settings.rtx) × IsNone settings.red
+-- the interval is 0 or above 60,000 milliseconds
 Says settings BadInterval = (settings.interval ≡ 0) ⊎ (60000 < settings.interval)
+-- RED or retransmissions are given, which the receiver doesn't take so far
 Says settings Later = IsSome settings.red ⊎ IsSome settings.rtx
-Says settings NoMemory = Unit {0}
+-- want of memory says nothing of settings
+Says settings NoMemory = ⊥
 
 -- a fault is the settings' fault where it says so, and none does of those that are tested before it
 abbrev pub IsFault : Settings → NewFault → Type 0
@@ -53,7 +58,7 @@ IsFault settings SameSsrc = (¬ Says settings BadType) × (¬ Says settings Same
 IsFault settings RedMissing = (¬ Says settings BadType) × (¬ Says settings SameType) × (¬ Says settings SameSsrc) × Says settings RedMissing
 IsFault settings BadInterval = (¬ Says settings BadType) × (¬ Says settings SameType) × (¬ Says settings SameSsrc) × (¬ Says settings RedMissing) × Says settings BadInterval
 IsFault settings Later = (¬ Says settings BadType) × (¬ Says settings SameType) × (¬ Says settings SameSsrc) × (¬ Says settings RedMissing) × (¬ Says settings BadInterval) × Says settings Later
-IsFault settings NoMemory = (¬ Says settings BadType) × (¬ Says settings SameType) × (¬ Says settings SameSsrc) × (¬ Says settings RedMissing) × (¬ Says settings BadInterval) × (¬ Says settings Later) × Says settings NoMemory
+IsFault settings NoMemory = ⊥
 
 -- the same, as tests
 abbrev pub is_bad_type : ℕ → Bool

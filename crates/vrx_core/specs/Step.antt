@@ -7,8 +7,10 @@ use Rattle.std.specs.FinMap.Entries.{is_sorted}
 use Rattle.vrx_vp8.specs.Descriptor.{bit}
 use Rattle.vrx_core.specs.Form.{is_aside}
 use Rattle.vrx_core.specs.Window.{Content, Media, Packets, newest_with, placed}
+use Rattle.vrx_core.specs.Text.{packet_text}
 use Rattle.vrx_rtp.specs.Packet.{Packet}
 use Rattle.vrx_rtp.specs.Reading.{read}
+use Rattle.vrx_rtp.specs.View.{view}
 use Rattle.vrx_core.specs.Run.{text_of, ◌>>=◌}
 use Rattle.vrx_core.specs.Verdict.{verdict}
 use Rattle.vrx_core.specs.Machine.{what_of}
@@ -16,12 +18,13 @@ use Rattle.vrx_core.specs.declared.reply.What.{What}
 use Rattle.vrx_core.specs.StandsFor.{Parts}
 use Rattle.vrx_core.specs.declared.settings.Settings.{Settings}
 use Rattle.vrx_core.specs.declared.form.NotTaken.{NotTaken}
+use Rattle.vrx_core.specs.declared.verdict.Taken.{Taken}
 use Rattle.vrx_core.specs.declared.reply.Frame.{Frame}
 
--- a verdict by the number alone, for these octets
-abbrev pub with_octets : List ℕ → Result ℕ NotTaken → Result (ℕ × Content) NotTaken
-with_octets octets (Ok n) = Ok (n, Media octets)
-with_octets octets (Err left) = Err left
+-- a verdict by the number and the packet
+abbrev pub with_text : Result Taken NotTaken → Result (ℕ × Content) NotTaken
+with_text (Ok taken) = Ok (taken.number, Media (packet_text (view taken.packet)))
+with_text (Err left) = Err left
 
 -- the parts after one event more, at this moment
 abbrev pub counted : Parts → ℕ → Parts

@@ -1,23 +1,26 @@
-//! The engine: two events and what each answers.
+//! The engine: three events and what each answers.
 
 ghost use Rattle.std.specs.Prelude.{◌≡◌, ◌⊎◌, ◌+◌, ◌<◌, ◌≤◌, ◌↔◌, max, List, [], ◌∷◌, Some, None, OnOk, OnErr, IfOk, IfErr, IsOk, IsErr, IsErrOf};
 ghost use Rattle.vrx_vp8.specs.Descriptor.{vp8};
-ghost use Rattle.vrx_core.specs.Machine.{Reply, ToDatagram, ToPull, no_feedback, answer_of as answer_of_left, what_of, pulled_of, reply};
+ghost use Rattle.vrx_core.specs.Machine.{Reply, ToDatagram, ToTick, ToPull, no_feedback, answer_of as answer_of_left, what_of, pulled_of, reply};
 ghost use Rattle.vrx_core.specs.Verdict.{verdict as verdict_of};
 ghost use Rattle.vrx_core.specs.SettingsFault.{IsFault, fault_of};
+ghost use Rattle.vrx_core.specs.Reasons.{MeansAnswer};
 ghost use Rattle.vrx_core.specs.StandsFor.{StandsFor, NoneDeliverable};
 ghost use Rattle.vrx_core.specs.Window.{newest_with as newest_of};
 ghost use Rattle.vrx_core.specs.Step.{IsSound, IsHandled, counted, with_pull, next_run, next_joined};
 ghost use Rattle.vrx_core.specs.declared.event.Event.{Event};
+ghost use Rattle.vrx_core.specs.declared.reply.What.{What};
 
 use crate::form::NotTaken;
 use crate::held::{Held, place};
+use crate::meanings::reasons_mean;
 use crate::reply::{Frame, Handled, Pulled, What};
 use crate::runs::next_frame;
 use crate::settings::{NewFault, Settings};
 use crate::settings_fault::fault_of as first_fault;
+use crate::text::text_of;
 use crate::verdict::verdict;
-use bytes::Bytes;
 use std::alloc::Global;
 use std::marker::Model;
 use vrx_num::{Extender, NoMemory, Numbers};
@@ -89,6 +92,7 @@ impl Engine {
         ensures bad_interval { IsErrOf result NewFault.BadInterval ↔ IsFault settings NewFault.BadInterval }
         ensures later { IsErrOf result NewFault.Later ↔ IsFault settings NewFault.Later }
         ensures taken { IfOk result (λ _. fault_of settings ≡ None) }
+        ensures no_memory { IsErrOf result NewFault.NoMemory → fault_of settings ≡ None }
         ensures refused { IfErr result (λ fault. (fault ≡ NewFault.NoMemory) ⊎ (fault_of settings ≡ Some fault)) }
         ensures stands { IfOk result (λ engine. StandsFor vp8 engine []) }
         ensures settings { IfOk result (λ engine. engine.settings ≡ settings) }
@@ -137,7 +141,8 @@ impl Engine {
     /// Takes a datagram that came at this moment, in milliseconds.
     ///
     /// `NoMemory` changes nothing, the clock and the count included. A datagram that is refused or RTCP is never answered
-    /// so, and moves the clock and the count alone. What became of it is the verdict over the newest number and the packets.
+    /// so, and moves the clock and the count alone. What became of it is the verdict over the newest number and the
+    /// packets. A packet that is taken is kept without its padding (RFC 3550 5.1).
     pub fn datagram(&mut self, moment: u64, bytes: &[u8]) -> Result<Handled, NoMemory>
         requires { self.old.events < 1048576 }
         ensures stands { (h : List Event) → StandsFor vp8 self.old h →
@@ -146,6 +151,8 @@ impl Engine {
             IfOk result (λ handled. ToDatagram handled ≡ reply self.old.settings vp8 h (Event.Datagram moment bytes.now)) }
         ensures what { IfOk result (λ handled.
             handled.what ≡ what_of (verdict_of self.old.settings self.old.newest self.old.packets bytes.now)) }
+        ensures exactly { (what : What) → IfOk result (λ handled.
+            (handled.what ≡ what) ↔ MeansAnswer self.old.settings self.old.newest self.old.packets bytes.now what) }
         ensures quiet { IfOk result (λ handled. (handled.repaired ≡ []) × (handled.feedback ≡ no_feedback)) }
         ensures counts { OnOk result ((self.new.events ≡ self.old.events + 1) ×
             (self.new.clock ≡ max self.old.clock moment)) }
@@ -154,6 +161,7 @@ impl Engine {
         ensures refused { IsErr (verdict_of self.old.settings self.old.newest self.old.packets bytes.now) →
             IsOk result × (self.new ≡ counted self.old moment) }
     {
+        reasons_mean();
         let what = self.handle(moment, bytes)?;
         Ok(Handled {
             what,
@@ -163,6 +171,24 @@ impl Engine {
                 pli: None,
             },
         })
+    }
+
+    /// Takes the time, in milliseconds. So far a tick moves the clock and the count alone, and no feedback is sent.
+    pub fn tick(&mut self, moment: u64) -> Feedback
+        requires { self.old.events < 1048576 }
+        ensures stands { (h : List Event) → StandsFor vp8 self.old h →
+            StandsFor vp8 self.new (Event.Tick moment ∷ h) }
+        ensures reply { (h : List Event) → StandsFor vp8 self.old h →
+            ToTick result ≡ reply self.old.settings vp8 h (Event.Tick moment) }
+        ensures quiet { result ≡ no_feedback }
+        ensures after { self.new ≡ counted self.old moment }
+    {
+        self.events += 1;
+        self.clock = self.clock.max(moment);
+        Feedback {
+            nack: None,
+            pli: None,
+        }
     }
 
     /// Gives the decoder the next frame, at this moment in milliseconds.
@@ -197,13 +223,15 @@ impl Engine {
         requires { self.old.events < 1048576 }
         ensures value { IfOk result (λ what. IsHandled self.old moment octets.now what self.new) }
         ensures err { OnErr result (self.new ≡ self.old) }
+        ensures sound { IsSound self.old }
         ensures refused { IsErr (verdict_of self.old.settings self.old.newest self.old.packets octets.now) →
             IsOk result }
     {
         let what = match verdict(&self.settings, &self.extender, &self.held, octets) {
             Err(left) => answer_of(left),
-            Ok(number) => {
-                let text = Bytes::copy_from_slice(self.alloc, octets)?;
+            Ok(taken) => {
+                let number = taken.number;
+                let text = text_of(self.alloc, octets, &taken.packet)?;
                 let newest = newest_with(self.extender.newest(), number);
                 place(&mut self.held, newest, Held { number, text })?;
                 self.extender.accept(number);

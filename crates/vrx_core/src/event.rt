@@ -1,4 +1,4 @@
-//! What can happen to a receiver. So far no event tells it the time alone.
+//! What can happen to a receiver.
 
 ghost use Rattle.std.specs.Prelude.{◌≡◌, [], ◌∷◌, ◌++◌, OnOk, OnErr};
 
@@ -11,6 +11,8 @@ use vrx_num::NoMemory;
 pub enum Event {
     /// A datagram came from the network.
     Datagram { moment: u64, bytes: EventBytes },
+    /// The time came, and nothing else happened.
+    Tick { moment: u64 },
     /// The decoder asked for the next frame.
     Pull { moment: u64 },
 }

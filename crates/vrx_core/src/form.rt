@@ -2,6 +2,7 @@
 
 ghost use Rattle.std.specs.Prelude.{◌≡◌, ◌+◌, ◌*◌, ◌/◌, ◌%◌, ◌<◌, ◌≤◌, ◌==◌, true, false, length, Some, IfOk, IfNone, IfSome, MatchOption};
 ghost use Rattle.std.specs.Result.{result_err};
+ghost use Rattle.vrx_rtp.specs.Packet.{IsPacket};
 ghost use Rattle.vrx_rtp.specs.Reading.{reading, read as packet_read};
 ghost use Rattle.vrx_rtp.specs.View.{view};
 ghost use Rattle.vrx_vp8.specs.Descriptor.{bit as bit_of};
@@ -32,12 +33,12 @@ pub(crate) fn bit(octet: u8, value: u8) -> bool
     octet / value % 2 == 1
 }
 
-/// Whether a packet of the stream isn't taken so far, for its padding or its payload (RFC 7741 4.2: X = 1).
+/// Whether a packet of the stream isn't taken so far, for its payload (RFC 7741 4.2: X = 1).
 fn is_form(packet: &RtpView<'_>) -> bool
     ensures value { result ≡ is_form_of (view packet.now) }
     ensures long { result ≡ false → 2 ≤ length packet.now.payload.now }
 {
-    packet.padding != 0 || packet.payload.len() < 2 || bit(packet.payload[0], 128)
+    packet.payload.len() < 2 || bit(packet.payload[0], 128)
 }
 
 /// Why a packet is refused.
@@ -74,6 +75,7 @@ fn fault_reason(kind: RtpFaultKind) -> Reason
 fn packet_in<'a>(settings: &Settings, octets: &'a [u8]) -> Result<RtpView<'a>, Reason>
     ensures reason { result_err result ≡ reading_reason settings.now (reading octets.now) }
     ensures packet { IfOk result (λ packet. packet_read octets.now ≡ Some (view packet)) }
+    ensures grammar { IfOk result (λ packet. IsPacket octets.now (view packet)) }
     ensures long { IfOk result (λ packet. 2 ≤ length packet.payload.now) }
 {
     match read(octets) {
@@ -100,6 +102,7 @@ fn control(octets: &[u8]) -> NotTaken
 pub(crate) fn sorted<'a>(settings: &Settings, octets: &'a [u8]) -> Result<RtpView<'a>, NotTaken>
     ensures aside { result_err result ≡ aside_of settings.now octets.now }
     ensures packet { IfOk result (λ packet. packet_read octets.now ≡ Some (view packet)) }
+    ensures grammar { IfOk result (λ packet. IsPacket octets.now (view packet)) }
     ensures long { IfOk result (λ packet. 2 ≤ length packet.payload.now) }
 {
     if octets.len() > MOST_OCTETS {

@@ -15,7 +15,7 @@ use vrx_num::NoMemory;
 pub(crate) struct Held {
     /// Its extended sequence number.
     pub(crate) number: u64,
-    /// The datagram that it came in.
+    /// Its text: its datagram without padding.
     pub(crate) text: Bytes,
 }
 

@@ -20,9 +20,9 @@ pub enum Reason {
     NotRtp,
     /// Its contributing sources, its header extension or its padding run past its end (RFC 3550 5.1).
     BadHeader,
-    /// Its SSRC isn't one of the settings.
+    /// Its SSRC isn't the media SSRC of the settings.
     OtherSsrc,
-    /// Its payload type isn't one that the settings have for its SSRC.
+    /// Its payload type isn't the media type of the settings.
     OtherType,
     /// It is a retransmission of a payload type that the settings don't have. It isn't told so far.
     NoApt,

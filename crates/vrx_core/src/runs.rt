@@ -146,6 +146,9 @@ fn due_length(settings: &Settings, held: &[Held], pulled: Option<u64>) -> Option
     ensures within { IfSome result (λ n. (0 < n) × (n ≤ length held.now)) }
 {
     let first = held.first()?;
+    if !lies_beyond(pulled, first.number) {
+        return None;
+    }
     if is_due(pulled, first.number, says_key(settings, first)) {
         run_length(settings, held)
     } else {

@@ -87,6 +87,29 @@ fn a_keyframe_is_pulled_once(rt: HostRuntime) -> Result<(), Fail> {
     Ok(())
 }
 
+#[test]
+fn a_tick_moves_the_clock_and_the_count_alone(rt: HostRuntime) -> Result<(), Fail> {
+    let mut engine = Engine::new(rt.alloc(), SETTINGS)?;
+    assert_eq!(rt;
+        datagram(&mut engine, 3, &keyframe(1))?,
+        What::Media(65_537)
+    );
+    // the clock doesn't go back
+    for (moment, now, events) in [(7, 7, 2), (5, 7, 3), (8, 8, 4)] {
+        if engine.events() >= MOST_EVENTS {
+            return Err("no event is left")?;
+        }
+        let feedback = engine.tick(moment);
+        assert!(rt; feedback.nack.is_none());
+        assert!(rt; feedback.pli.is_none());
+        assert_eq!(rt; engine.now(), now);
+        assert_eq!(rt; engine.events(), events);
+    }
+    assert_eq!(rt; pull_first(&mut engine)?, Some(65_537));
+    assert_eq!(rt; pull_first(&mut engine)?, None);
+    Ok(())
+}
+
 // A keyframe with the octet at a place changed.
 fn changed(at: usize, octet: u8) -> [u8; 15] {
     let mut bytes = keyframe(32_770);
@@ -198,19 +221,72 @@ fn sources_and_an_extension_are_taken(rt: HostRuntime) -> Result<(), Fail> {
             assert_eq!(rt; frame.bytes.as_slice(), [0x00, 0xaa].as_slice());
         }
     }
-    // padding of one octet isn't taken so far
-    let padded: [u8; 16] = [
-        0xa0, 0xe0, 0, 2, 0, 0, 0, 0, 0, 0, 0, 0x0a, 0x10, 0x00, 0xaa, 1,
-    ];
-    assert_eq!(rt;
-        datagram(&mut engine, 0, &padded)?,
-        What::Dropped(Reason::Form)
-    );
     Ok(())
 }
 
 #[test]
-fn a_datagram_has_14_to_9216_octets(rt: HostRuntime) -> Result<(), Fail> {
+fn padding_is_taken_off(rt: HostRuntime) -> Result<(), Fail> {
+    let mut engine = Engine::new(rt.alloc(), SETTINGS)?;
+    // four padding octets, of which the last says so (RFC 3550 5.1)
+    let first: [u8; 19] = [
+        0xa0, 0x60, 0, 2, 0, 0, 0, 0, 0, 0, 0, 0x0a, 0x10, 0x00, 0xaa, 0xcc, 0xcc, 0xcc, 4,
+    ];
+    assert_eq!(rt; datagram(&mut engine, 0, &first)?, What::Media(65_538));
+    // one padding octet, a contributing source and an extension of one word
+    let last: [u8; 27] = [
+        0xb1, 0xe0, 0, 3, 0, 0, 0, 0, 0, 0, 0, 0x0a, 0, 0, 0, 0x0c, 0xbe, 0xde, 0, 1, 1, 2, 3, 4,
+        0x00, 0xbb, 1,
+    ];
+    assert_eq!(rt; datagram(&mut engine, 0, &last)?, What::Media(65_539));
+    // the first again, without its padding
+    let plain: [u8; 15] = [
+        0x80, 0x60, 0, 2, 0, 0, 0, 0, 0, 0, 0, 0x0a, 0x10, 0x00, 0xaa,
+    ];
+    assert_eq!(rt;
+        datagram(&mut engine, 0, &plain)?,
+        What::Dropped(Reason::Repeat)
+    );
+    match pull(&mut engine, 0)? {
+        Pulled::NotReady => return Err("no frame")?,
+        Pulled::Frame(frame) => {
+            assert_eq!(rt; frame.first, 65_538);
+            assert_eq!(rt; frame.last, 65_539);
+            assert_eq!(rt; frame.bytes.as_slice(), [0x00, 0xaa, 0xbb].as_slice());
+        }
+    }
+    Ok(())
+}
+
+// A datagram with P = 1, which has these four octets behind its header.
+fn padded(behind: [u8; 4]) -> [u8; 16] {
+    let [first, second, third, last] = behind;
+    [
+        0xa0, 0xe0, 0, 2, 0, 0, 0, 0, 0, 0, 0, 0x0a, first, second, third, last,
+    ]
+}
+
+#[test]
+fn padding_may_leave_too_little(rt: HostRuntime) -> Result<(), Fail> {
+    for (behind, want) in [
+        // the four octets behind the header: none of them, one, and two are payload
+        ([0, 0, 0, 4], What::Dropped(Reason::Form)),
+        ([0x10, 0, 0, 3], What::Dropped(Reason::Form)),
+        ([0x10, 0, 0, 2], What::Media(65_538)),
+        // bit X of the payload's first octet
+        ([0x90, 0x80, 0, 1], What::Dropped(Reason::Form)),
+        // the last octet counts none, or more than follow the header
+        ([0x10, 0, 0, 0], What::Dropped(Reason::BadHeader)),
+        ([0x10, 0, 0, 5], What::Dropped(Reason::BadHeader)),
+    ] {
+        let mut engine = Engine::new(rt.alloc(), SETTINGS)?;
+        let what = datagram(&mut engine, 0, &padded(behind))?;
+        assert_eq!(rt; what, want, "{behind:?}");
+    }
+    Ok(())
+}
+
+#[test]
+fn a_datagram_has_at_most_9216_octets_and_two_of_payload(rt: HostRuntime) -> Result<(), Fail> {
     for (octets, want) in [
         (0, What::Dropped(Reason::NotRtp)),
         (11, What::Dropped(Reason::NotRtp)),

@@ -1,10 +1,13 @@
 //! What a datagram is, by the table of reasons.
 
-ghost use Rattle.std.specs.Prelude.{◌≡◌, ◌+◌, ◌*◌, ◌<◌, ◌≤◌, ◌^◌, true, false, IfOk, MatchOption};
+ghost use Rattle.std.specs.Prelude.{◌≡◌, ◌+◌, ◌*◌, ◌<◌, ◌≤◌, ◌^◌, true, false, Some, IfOk, MatchOption};
+ghost use Rattle.vrx_rtp.specs.Packet.{IsPacket};
+ghost use Rattle.vrx_rtp.specs.Reading.{read as packet_read};
+ghost use Rattle.vrx_rtp.specs.View.{view};
 ghost use Rattle.vrx_core.specs.Window.{is_available, in_window, newest_with};
 ghost use Rattle.vrx_core.specs.Form.{is_aside};
 ghost use Rattle.vrx_core.specs.Verdict.{verdict as verdict_of, is_too_old};
-ghost use Rattle.vrx_core.specs.Step.{with_octets};
+ghost use Rattle.vrx_core.specs.Step.{with_text};
 ghost use Rattle.vrx_core.specs.Held.{entries};
 
 use crate::form::{NotTaken, sorted};
@@ -12,6 +15,7 @@ use crate::held::{Held, WINDOW, holds};
 use crate::reply::Reason;
 use crate::settings::Settings;
 use vrx_num::Extender;
+use vrx_rtp::RtpView;
 
 /// Whether a number lies below the window.
 fn lies_below(newest: Option<u64>, number: u64) -> bool
@@ -24,20 +28,31 @@ fn lies_below(newest: Option<u64>, number: u64) -> bool
     }
 }
 
-/// The number under which a datagram is taken, or what becomes of it. It takes no memory.
-pub(crate) fn verdict(
+/// What a datagram is taken as.
+#[derive(Clone, Copy)]
+pub(crate) struct Taken<'a> {
+    /// Its extended sequence number.
+    pub(crate) number: u64,
+    /// Its packet.
+    pub(crate) packet: RtpView<'a>,
+}
+
+/// What a datagram is taken as, or what becomes of it. It takes no memory.
+pub(crate) fn verdict<'a>(
     settings: &Settings,
     extender: &Extender,
     held: &[Held],
-    octets: &[u8],
-) -> Result<u64, NotTaken>
-    ensures value { verdict_of settings.now extender.now (entries held.now) octets.now ≡ with_octets octets.now result }
+    octets: &'a [u8],
+) -> Result<Taken<'a>, NotTaken>
+    ensures value { verdict_of settings.now extender.now (entries held.now) octets.now ≡ with_text result }
     ensures form { IfOk result (λ _. is_aside settings.now octets.now ≡ false) }
-    ensures fresh { IfOk result (λ number. is_available number (entries held.now) ≡ false) }
-    ensures inside { IfOk result (λ number. in_window (newest_with extender.now number) number ≡ true) }
-    ensures reach { IfOk result (λ number.
-        MatchOption extender.now ((65536 ≤ number) × (number < 131072)) (λ newest.
-        (newest < number + 32768) × (number < newest + 32768))) }
+    ensures reads { IfOk result (λ taken. packet_read octets.now ≡ Some (view taken.packet)) }
+    ensures grammar { IfOk result (λ taken. IsPacket octets.now (view taken.packet)) }
+    ensures fresh { IfOk result (λ taken. is_available taken.number (entries held.now) ≡ false) }
+    ensures inside { IfOk result (λ taken. in_window (newest_with extender.now taken.number) taken.number ≡ true) }
+    ensures reach { IfOk result (λ taken.
+        MatchOption extender.now ((65536 ≤ taken.number) × (taken.number < 131072)) (λ newest.
+        (newest < taken.number + 32768) × (taken.number < newest + 32768))) }
 {
     let packet = match sorted(settings, octets) {
         Err(left) => return Err(left),
@@ -52,5 +67,5 @@ pub(crate) fn verdict(
     if holds(held, number) {
         return Err(NotTaken::Refused(Reason::Repeat));
     }
-    Ok(number)
+    Ok(Taken { number, packet })
 }

@@ -1,78 +1,101 @@
--- How a replay ends, by its first line.
-use Rattle.std.proofs.Common.{◌≡◌, ℕ, ◌<◌, cond, List, [], ◌∷◌, length, refl, sym, ◌∙◌, ap, subst, arith}
+-- How a run begins and ends by its first line, whatever it gives of captures.
+use Rattle.std.proofs.Common.{◌≡◌, ◌⊎◌, ◌≤◌, ℕ, length, true, false, List, [], ◌∷◌, ◌++◌, sym, ap, subst, ◌∙◌, inl, inr, refl, arith}
 use Rattle.std.specs.Prelude.{Option, Some, None, IfSome}
-use Rattle.std.specs.Option.{option_map}
-use Rattle.std.proofs.lemmas.Bool.{lt-ltb}
-use Rattle.std.proofs.lemmas.Option.{same_Some, none-some}
-use Rattle.vrx_core.specs.declared.settings.Settings.{Settings}
-use Rattle.vrx_text.specs.Line.{lines_of, settings_in}
-use Rattle.vrx_text.specs.Ahead.{ahead, lines_ahead, line_first, HasNoHead}
-use Rattle.vrx_text.specs.Reading.{longest_line, reading}
-use Rattle.vrx_text.specs.Reader.{Reader, opening, due, reading_of, IsHead}
+use Rattle.vrx_io.specs.Source.{IsSpent}
+use Rattle.vrx_io.specs.Sink.{extended}
+use Rattle.vrx_text.specs.Line.{lines_of, longest_line}
+use Rattle.vrx_text.specs.Ahead.{ahead}
+use Rattle.vrx_text.specs.Reader.{Reader, opening, Passes, MayFollow, HasNoHead, HasNoFeed, IsHead, IsHeadFault}
+use Rattle.vrx_text.specs.declared.lines.HeadFault.TheVariants as heads
+use Rattle.vrx_text.specs.Joins.{LinesJoin, ReadingsJoin}
 use Rattle.vrx_text.specs.Transcript.{error_line}
-use Rattle.vrx_program.specs.Replay.{Call, accepted, settings_of, call_with, call_in, call_of, outcome_of, replayed}
-use Rattle.vrx_program.specs.Ends.{Ends, EndsBadly, EndsAfter}
+use Rattle.vrx_text.specs.declared.transcript.ErrorReason.{ErrorReason}
+use Rattle.vrx_text.specs.declared.transcript.ErrorReason.TheVariants as errors
+use Rattle.vrx_program.specs.HasRead.{HasRead}
+use Rattle.vrx_program.specs.Outcome.{Outcome, text_of_outcome, refused}
+use Rattle.vrx_program.specs.Replay.{most_events}
+use Rattle.vrx_program.specs.Ends.{Ends, EndsOver, EndsBadly}
 use Rattle.vrx_program.specs.declared.status.Status.{Status}
 use Rattle.vrx_program.specs.declared.status.Status.TheVariants as statuses
+use Rattle.vrx_program.proofs.ReadsLemmas.{ahead-told, reads-first, reads-front}
+use Rattle.vrx_program.proofs.TextLemmas.{extended-none, ends-badly}
 
--- a capture without a call ends with its first line as the bad one
-ends-uncalled : (call : Option Call) (status : Status) (before after left : Option (List ℕ)) → call ≡ None → EndsBadly status (error_line 1) before after → Ends status (outcome_of call) before after left
-ends-uncalled call status before after left none ends = subst (λ c. Ends status (outcome_of c) before after left) (sym none) (go status ends) where
-  go : (s : Status) → EndsBadly s (error_line 1) before after → Ends s (outcome_of None) before after left
-  go statuses.BadCapture e = (refl, e)
-  go statuses.WriteFault e = e
-  go statuses.NoMemory e = e
-  go statuses.Done e = absurd e
-  go statuses.BadUsage e = absurd e
-  go statuses.ReadFault e = absurd e
+-- the first call gave a line: it was read
+pub head-read : (source : Option (List ℕ)) (old new : Reader) (after : Option (List ℕ)) (line : List ℕ) → LinesJoin → ReadingsJoin → old ≡ opening most_events → (p : Passes old new source after) × (IsHead old new p.read p.gone (Some line)) → new.events ≡ old.events → new.bad ≡ old.bad
+    → HasRead most_events source line new after []
+head-read source old new after line lines_join readings_join is head events bad = let h = subst (λ o. (p : Passes o new source after) × (IsHead o new p.read p.gone (Some line))) is head in
+    reads-first lines_join readings_join most_events source line new after h.0 h.1.0 (events ∙ ap (λ (r : Reader). r.events) is) (bad ∙ ap (λ (r : Reader). r.bad) is)
 
--- a line that is too long tells no settings
-settings-long : (line : List ℕ) → longest_line < length line → settings_of line ≡ None
-unfolding settings_of
-settings-long line long = ap (λ b. cond b None (accepted (settings_in line))) (lt-ltb longest_line (length line) long)
+-- a run refuses a capture that has no first line, or one that is too long
+pub record RefusesHeads (outcome : List ℕ → Outcome) : Type 0 where
+  pub refuses : (capture : List ℕ) → HasNoHead (lines_of capture) → outcome capture ≡ refused errors.Settings
+  pub nothing : (outcome []).told ≡ []
 
--- what lies ahead of a new reader is the capture
-ahead-all : (capture : List ℕ) → lines_ahead [] (Some capture) ≡ Some (lines_of capture)
-unfolding ahead
-ahead-all capture = refl
+module _ (outcome : List ℕ → Outcome) where
+  -- a capture whose first line is refused
+  ends-first : (reason : ErrorReason) (capture : List ℕ) (status : Status) (sink last left : Option (List ℕ)) → outcome capture ≡ refused reason → EndsBadly status (error_line 1 reason) sink last → Ends outcome status capture sink last left
+  ends-first reason capture status sink last left is ends =
+      ends-badly status outcome capture [] (error_line 1 reason) sink sink last left (ap (λ (o : Outcome). o.status) is) (ap text_of_outcome is) (sym (extended-none sink)) ends
 
-no_call : (lines : List (List ℕ)) → HasNoHead lines → call_in lines ≡ None
-no_call [] none = refl
-no_call (line ∷ lines) long = ap (λ s. call_with s lines) (settings-long line long)
+  -- want of memory before the first event
+  pub ends-early : (source sink left : Option (List ℕ)) → EndsOver outcome statuses.NoMemory source sink left sink
+  ends-early source sink left = over source where
+    over : (o : Option (List ℕ)) → EndsOver outcome statuses.NoMemory o sink left sink
+    over None = tt
+    over (Some capture) = (0, sym (extended-none sink))
 
--- no first line
-pub ends-none : (left : Option (List ℕ)) (old new : Reader) (after_head : Option (List ℕ)) (status : Status) (before after last : Option (List ℕ)) → old ≡ opening 1048576 → IsHead old left new after_head None → EndsBadly status (error_line 1) before after
-    → IfSome left (λ capture. Ends status (replayed capture) before after last)
-ends-none None old new after_head status before after last is head ends = tt
-ends-none (Some capture) old new after_head status before after last is head ends =
-    let first : IsHead (opening 1048576) (Some capture) new after_head None = subst (λ o. IsHead o (Some capture) new after_head None) is head in
-    let none : HasNoHead (lines_of capture) = subst (λ o. IfSome o HasNoHead) (ahead-all capture) (first.0 (omega arith)) in
-    ends-uncalled (call_of capture) status before after last (no_call (lines_of capture) none) ends
+  -- a first call that passed over nothing
+  module _ (heads : RefusesHeads outcome) (source sink : Option (List ℕ)) (new : Reader) (after : Option (List ℕ)) (p : Passes (opening most_events) new source after) (none_gone : p.gone ≡ []) where
+    -- what was read is kept
+    kept-is : new.kept ≡ p.read
+    kept-is = sym (p.octets ∙ ap (λ g. g ++ new.kept) none_gone)
 
--- the lines of a capture, by the first and what is ahead behind it
-split-lines : (capture line : List ℕ) (rest : Option (List (List ℕ))) → Some (lines_of capture) ≡ line_first line rest → (lines : List (List ℕ)) × (rest ≡ Some lines) × (lines_of capture ≡ line ∷ lines)
-split-lines capture line None is = absurd (none-some _ (sym is))
-split-lines capture line (Some lines) is = (lines, refl, same_Some _ _ is)
+    -- there is no first line that may be taken
+    pub ends-none : (last : Option (List ℕ)) (status : Status) → ((more : List ℕ) → MayFollow new more → HasNoHead (lines_of (p.read ++ more))) → EndsBadly status (error_line 1 errors.Settings) sink last → EndsOver outcome status source sink after last
+    ends-none last status none ends = over source refl where
+      over : (o : Option (List ℕ)) → source ≡ o → EndsOver outcome status o sink after last
+      over None is = tt
+      over (Some capture) is = ends-first errors.Settings capture status sink last after (heads.refuses capture (subst (λ c. HasNoHead (lines_of c)) (sym told.2) (none told.0 follows))) ends where
+        told : (rest : List ℕ) × (after ≡ Some rest) × (capture ≡ p.read ++ rest)
+        told = ahead-told p.read capture after (sym is ∙ p.source)
 
--- a first line that tells no settings that the engine takes
-pub ends-refused : (left : Option (List ℕ)) (old new : Reader) (after_head : Option (List ℕ)) (line : List ℕ) (status : Status) (before after last : Option (List ℕ)) → old ≡ opening 1048576 → IsHead old left new after_head (Some line) → settings_of line ≡ None
-    → EndsBadly status (error_line 1) before after → IfSome left (λ capture. Ends status (replayed capture) before after last)
-ends-refused None old new after_head line status before after last is head refused ends = tt
-ends-refused (Some capture) old new after_head line status before after last is head refused ends =
-    let first : IsHead (opening 1048576) (Some capture) new after_head (Some line) = subst (λ o. IsHead o (Some capture) new after_head (Some line)) is head in
-    let split = split-lines capture line (lines_ahead new.kept after_head) (sym (ahead-all capture) ∙ first.0) in
-    ends-uncalled (call_of capture) status before after last (ap call_in split.2 ∙ ap (λ s. call_with s split.0) refused) ends
+        follows : MayFollow new told.0
+        follows ended = by_end (p.end ended) where
+          by_end : (false ≡ true) ⊎ IsSpent after → told.0 ≡ []
+          by_end (inl never) = cc never
+          by_end (inr spent) = subst IsSpent told.1 spent
 
-due-behind : (new : Reader) (after_head : Option (List ℕ)) (lines : List (List ℕ)) → new ≡ record (opening 1048576) { kept = new.kept; given = 1 } → lines_ahead new.kept after_head ≡ Some lines → due new after_head ≡ Some (reading 1048576 2 0 lines)
-unfolding due
-due-behind new after_head lines is ahead_is = ap (λ o. option_map (reading_of new) o) ahead_is ∙ ap (λ r. Some (reading_of r lines)) is
+    -- a read of the first line failed
+    pub ends-unread : HasNoFeed new.kept → length new.kept ≤ longest_line → EndsOver outcome statuses.ReadFault source sink after sink
+    ends-unread no_feed short = over source refl where
+      over : (o : Option (List ℕ)) → source ≡ o → EndsOver outcome statuses.ReadFault o sink after sink
+      over None is = tt
+      over (Some capture) is = record {
+        lines = [];
+        part = new.kept;
+        read = sym is ∙ p.source ∙ ap (λ k. ahead k after) (sym kept-is);
+        whole = inl refl;
+        no_feed = no_feed;
+        right = inl refl;
+        short = short;
+        took = sym (extended-none sink) ∙ ap (extended sink) (sym heads.nothing);
+      }
 
--- a first line with settings: the run is that of the lines behind it
-pub ends-played : (left : Option (List ℕ)) (old new : Reader) (after_head : Option (List ℕ)) (line : List ℕ) (settings : Settings) (status : Status) (before after last : Option (List ℕ)) → old ≡ opening 1048576 → IsHead old left new after_head (Some line)
-    → settings_of line ≡ Some settings → EndsAfter settings [] status (due new after_head) before after last → IfSome left (λ capture. Ends status (replayed capture) before after last)
-ends-played None old new after_head line settings status before after last is head told ends = tt
-ends-played (Some capture) old new after_head line settings status before after last is head told ends =
-    let first : IsHead (opening 1048576) (Some capture) new after_head (Some line) = subst (λ o. IsHead o (Some capture) new after_head (Some line)) is head in
-    let split = split-lines capture line (lines_ahead new.kept after_head) (sym (ahead-all capture) ∙ first.0) in
-    let behind : EndsAfter settings [] status (Some (reading 1048576 2 0 split.0)) before after last = subst (λ d. EndsAfter settings [] status d before after last) (due-behind new after_head split.0 first.2 split.1) ends in
-    subst (λ c. Ends status (outcome_of c) before after last) (sym (ap call_in split.2 ∙ ap (λ s. call_with s split.0) told)) behind
+  -- the same, as the first call answers
+  pub head-none : RefusesHeads outcome → (source sink : Option (List ℕ)) (old new : Reader) (after last : Option (List ℕ)) (status : Status) → old ≡ opening most_events → (p : Passes old new source after) × (IsHead old new p.read p.gone None)
+      → EndsBadly status (error_line 1 errors.Settings) sink last → EndsOver outcome status source sink after last
+  head-none refuses source sink old new after last status is head ends = let h = subst (λ o. (p : Passes o new source after) × (IsHead o new p.read p.gone None)) is head in
+      ends-none refuses source sink new after h.0 h.1.0 last status (h.1.1 (omega arith)) ends
+
+  pub head-unread : RefusesHeads outcome → (source sink : Option (List ℕ)) (old new : Reader) (after : Option (List ℕ)) → old ≡ opening most_events → (p : Passes old new source after) × (IsHeadFault new p.gone heads.ReadFault) → EndsOver outcome statuses.ReadFault source sink after sink
+  head-unread refuses source sink old new after is head = let h = subst (λ o. (p : Passes o new source after) × (IsHeadFault new p.gone heads.ReadFault)) is head in
+      ends-unread refuses source sink new after h.0 h.1.0 h.1.1 h.1.3
+
+  -- the first line is refused
+  pub ends-refused : LinesJoin → ReadingsJoin → (source sink : Option (List ℕ)) (line : List ℕ) (reader : Reader) (left last : Option (List ℕ)) (reason : ErrorReason) (status : Status) → HasRead most_events source line reader left []
+      → ((capture : List ℕ) (others : List (List ℕ)) → lines_of capture ≡ line ∷ others → outcome capture ≡ refused reason) → EndsBadly status (error_line 1 reason) sink last → EndsOver outcome status source sink left last
+  ends-refused lines_join readings_join source sink line reader left last reason status read refuses ends = over source refl where
+    over : (o : Option (List ℕ)) → source ≡ o → EndsOver outcome status o sink left last
+    over None is = tt
+    over (Some capture) is = let f = reads-front lines_join readings_join most_events source line reader left [] read capture is in
+        ends-first reason capture status sink last left (refuses capture f.0 f.1) ends

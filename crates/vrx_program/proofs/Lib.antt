@@ -1,6 +1,9 @@
 pub mod WordsLemmas
-pub mod EndsLemmas
-pub mod SettingsLemmas
+pub mod ReadsLemmas
+pub mod TextLemmas
+pub mod PlaysLemmas
+pub mod LooksLemmas
 pub mod HeadLemmas
+pub mod SettingsLemmas
 pub mod HonestLinesLemmas
 pub mod Rows

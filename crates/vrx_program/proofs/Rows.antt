@@ -1,7 +1,10 @@
--- Whole replays, worked by hand: the definitions on captures.
-use Rattle.std.proofs.Common.{◌≡◌, ℕ, zero, suc, List, [], ◌∷◌, ◌++◌, codes, refl, true, false, None, append_assoc, append-nil, arith}
-use Rattle.std.specs.Fmt.{decimal}
-use Rattle.std.proofs.lemmas.List.Elements.{All-nil}
+-- Whole replays and an inspection, worked by hand: the definitions on captures.
+use Rattle.std.proofs.Common.{◌≡◌, ◌<◌, inl, All, ℕ, zero, suc, List, [], ◌∷◌, ◌++◌, codes, refl, true, false, None, arith}
+use Rattle.std.specs.Prelude.{nat_lt}
+use Rattle.std.specs.List.{AllByRecursion, list_all}
+use Rattle.std.proofs.lemmas.Bool.{and_parts, ltb-true}
+use Rattle.std.specs.Fmt.{digits}
+use Rattle.std.proofs.lemmas.List.Elements.{All-nil, All-from_recursion}
 use Rattle.vrx_vp8.specs.Descriptor.{vp8}
 use Rattle.vrx_core.specs.Machine.{snapshots, reply}
 use Rattle.vrx_core.specs.Sender.{SentFrame, Media, Sender}
@@ -13,6 +16,8 @@ use Rattle.vrx_core.specs.declared.settings.Settings.{Settings}
 use Rattle.vrx_text.specs.Transcript.{line_feed}
 use Rattle.vrx_text.proofs.OnLiterals.{text_on_literals}
 use Rattle.vrx_program.specs.HonestLines.{IsHonestCapture}
+use Rattle.vrx_text.specs.Inspection.{inspection}
+use Rattle.vrx_program.specs.Inspect.{is_head, inspections, inspected}
 use Rattle.vrx_program.specs.Replay.{settings_of, replayed}
 use Rattle.vrx_program.specs.declared.status.Status.TheVariants.{Done, BadCapture}
 
@@ -25,9 +30,9 @@ unfolding text_on_literals settings_of
 settings_alone = refl
 
 -- a pull before any packet
-pub pull_first : replayed (head ++ codes "p 0" ++ line_feed) ≡ record { status = Done; told = decimal 2 ++ codes " notready" ++ line_feed; last = [] }
-unfolding text_on_literals settings_of snapshots reply
-pull_first = simp (append_assoc, append-nil)
+pub pull_first : replayed (head ++ codes "p 0" ++ line_feed) ≡ record { status = Done; told = codes "2 notready" ++ line_feed; last = [] }
+unfolding text_on_literals settings_of snapshots reply digits
+pull_first = refl
 
 -- one keyframe
 abbrev keyframe_capture : List ℕ
@@ -35,37 +40,33 @@ keyframe_capture = head ++ codes "d 0 80e00001000000000000000a1000aa" ++ line_fe
 
 pub one_keyframe : replayed keyframe_capture ≡ record {
   status = Done;
-  told = (decimal 2 ++ codes " media " ++ decimal 65537 ++ line_feed) ++ decimal 3 ++ codes " frame " ++ decimal 65537 ++ codes " " ++ decimal 65537 ++ codes " key " ++ decimal 0 ++ codes " 00aa" ++ line_feed;
+  told = codes "2 media 65537" ++ line_feed ++ codes "3 frame 65537 65537 key 0 00aa" ++ line_feed;
   last = [];
 }
-unfolding text_on_literals settings_of snapshots reply
-one_keyframe = simp (append_assoc, append-nil)
+unfolding text_on_literals settings_of snapshots reply digits
+one_keyframe = refl
 
 -- one keyframe in three packets, the last one first: the pull finds 65537 to 65539, and joins what lies behind the
 -- descriptors
 abbrev parts_capture : List ℕ
 parts_capture = head ++ codes "d 0 80e00003000000000000000a00cc" ++ line_feed ++ codes "d 0 80600001000000000000000a1000aa" ++ line_feed ++ codes "d 0 80600002000000000000000a00bb" ++ line_feed ++ codes "p 1" ++ line_feed
 
--- the line of a packet taken
-abbrev media_line : ℕ → ℕ → List ℕ
-media_line k n = decimal k ++ codes " media " ++ decimal n ++ line_feed
-
 pub parts_joined : replayed parts_capture ≡ record {
   status = Done;
-  told = media_line 2 65539 ++ (media_line 3 65537 ++ (media_line 4 65538 ++ ((decimal 5 ++ codes " frame " ++ (decimal 65537 ++ codes " " ++ decimal 65539 ++ codes " " ++ codes "key" ++ codes " " ++ decimal 0 ++ codes " " ++ codes "00aabbcc") ++ line_feed) ++ [])));
+  told = codes "2 media 65539" ++ line_feed ++ codes "3 media 65537" ++ line_feed ++ codes "4 media 65538" ++ line_feed ++ codes "5 frame 65537 65539 key 0 00aabbcc" ++ line_feed;
   last = [];
 }
-unfolding text_on_literals settings_of snapshots reply
+unfolding text_on_literals settings_of snapshots reply digits
 parts_joined = refl
 
 -- equal SSRCs are refused, and an empty capture has no settings
-pub same_ssrc : replayed (codes "vrx 1 codec=vp8 ssrc=0000000a pt=96 from=0000000a") ≡ record { status = BadCapture; told = []; last = codes "error line " ++ decimal 1 ++ codes " form" ++ line_feed }
-unfolding text_on_literals settings_of
-same_ssrc = simp append_assoc
+pub same_ssrc : replayed (codes "vrx 1 codec=vp8 ssrc=0000000a pt=96 from=0000000a") ≡ record { status = BadCapture; told = []; last = codes "error line 1 settings" ++ line_feed }
+unfolding text_on_literals settings_of digits
+same_ssrc = refl
 
-pub empty_capture : replayed [] ≡ record { status = BadCapture; told = []; last = codes "error line " ++ decimal 1 ++ codes " form" ++ line_feed }
-unfolding text_on_literals settings_of
-empty_capture = simp append_assoc
+pub empty_capture : replayed [] ≡ record { status = BadCapture; told = []; last = codes "error line 1 settings" ++ line_feed }
+unfolding text_on_literals settings_of digits
+empty_capture = refl
 
 -- the capture of one keyframe in three packets is honest: the condition of the law can be met
 abbrev first_text : List ℕ
@@ -108,11 +109,18 @@ third_part = record {
   part = record { start = No; key = false; layers = None; body = 204 ∷ [] };
 }
 
+-- octets, as a test
+are_octets : (octets : List ℕ) → list_all (λ octet. nat_lt octet 256) octets ≡ true → All (λ octet. octet < 256) octets
+are_octets octets h = All-from_recursion (λ octet. octet < 256) octets (each octets h) where
+  each : (os : List ℕ) → list_all (λ octet. nat_lt octet 256) os ≡ true → AllByRecursion (λ octet. octet < 256) os
+  each [] h = tt
+  each (o ∷ os) h = let both = and_parts (nat_lt o 256) (list_all (λ octet. nat_lt octet 256) os) h in (ltb-true o 256 both.0, each os both.1)
+
 -- each packet is a part of the frame
 first_is : IsPart settings vp8 sender 0 keyframe 3 0 0 first_part
 first_is = record {
   sent = refl;
-  media = record { size = omega arith; reads = refl; no_padding = refl; number = refl; type = refl; source = refl; payload = λ e. cc; part_reads = refl; no_rtcp = λ r. absurd (omega (arith, r.at_most)); long = omega arith; no_extension = refl };
+  media = record { size = omega arith; below = are_octets first_text refl; reads = refl; no_padding = refl; number = refl; type = refl; source = refl; payload = λ e. cc; part_reads = refl; no_rtcp = λ r. absurd (omega (arith, r.at_most)); long = omega arith; no_extension = refl };
   timestamp = refl;
   marker = (λ e. cc, λ e. absurd (omega arith));
   start = refl;
@@ -122,7 +130,7 @@ first_is = record {
 second_is : IsPart settings vp8 sender 0 keyframe 3 1 1 second_part
 second_is = record {
   sent = refl;
-  media = record { size = omega arith; reads = refl; no_padding = refl; number = refl; type = refl; source = refl; payload = λ e. cc; part_reads = refl; no_rtcp = λ r. absurd (omega (arith, r.at_most)); long = omega arith; no_extension = refl };
+  media = record { size = omega arith; below = are_octets second_text refl; reads = refl; no_padding = refl; number = refl; type = refl; source = refl; payload = λ e. cc; part_reads = refl; no_rtcp = λ r. absurd (omega (arith, r.at_most)); long = omega arith; no_extension = refl };
   timestamp = refl;
   marker = (λ e. cc, λ e. absurd (omega arith));
   start = refl;
@@ -132,7 +140,7 @@ second_is = record {
 third_is : IsPart settings vp8 sender 0 keyframe 3 2 2 third_part
 third_is = record {
   sent = refl;
-  media = record { size = omega arith; reads = refl; no_padding = refl; number = refl; type = refl; source = refl; payload = λ e. cc; part_reads = refl; no_rtcp = λ r. absurd (omega (arith, r.at_most)); long = omega arith; no_extension = refl };
+  media = record { size = omega arith; below = are_octets third_text refl; reads = refl; no_padding = refl; number = refl; type = refl; source = refl; payload = λ e. cc; part_reads = refl; no_rtcp = λ r. absurd (omega (arith, r.at_most)); long = omega arith; no_extension = refl };
   timestamp = refl;
   marker = (λ e. refl, λ e. refl);
   start = refl;
@@ -165,4 +173,16 @@ sender-honest = record {
 
 pub parts-honest : IsHonestCapture parts_capture sender (FromSender 2 ∷ FromSender 0 ∷ FromSender 1 ∷ Elsewhere ∷ [])
 unfolding text_on_literals settings_of snapshots taken
-parts-honest = (sender-honest, ((refl, tt), ((refl, (omega arith, omega arith)), ((refl, (omega arith, omega arith)), (tt, tt)))))
+parts-honest = (sender-honest, ((inl refl, tt), ((inl refl, (omega arith, omega arith)), ((inl refl, (omega arith, omega arith)), (tt, tt)))))
+
+-- an inspection: a datagram, a tick, a pull and a bad line under settings that a replay doesn't take so far
+abbrev inspected_capture : List ℕ
+inspected_capture = codes "vrx 1 codec=h264 ssrc=0000000a pt=96 from=0000000b" ++ line_feed ++ codes "d 0 8060000100000000000000" ++ line_feed ++ codes "t 1" ++ line_feed ++ codes "p 1 " ++ line_feed
+
+pub short_packet_inspected : inspected inspected_capture ≡ record {
+  status = BadCapture;
+  told = codes "2 bad rtp Short 11" ++ line_feed;
+  last = codes "error line 4 end" ++ line_feed;
+}
+unfolding text_on_literals is_head inspections inspection digits
+short_packet_inspected = refl

@@ -1,37 +1,78 @@
--- When the engine takes the settings that a line tells.
-use Rattle.std.proofs.Common.{◌≡◌, ◌≢◌, ◌⊎◌, ℕ, ◌≤◌, true, false, cond, List, length, sym, ◌∙◌, ap, inl, inr}
-use Rattle.std.specs.Prelude.{Some, None, is_some, nat_lt}
-use Rattle.std.proofs.lemmas.Bool.{le-ltb}
+-- When the settings that a line tells are taken.
+use Rattle.std.proofs.Common.{◌≡◌, ◌≢◌, ◌⊎◌, ℕ, ◌≤◌, Bool, true, false, List, length, refl, sym, ◌∙◌, ap, inl, inr}
+use Rattle.std.specs.Prelude.{Option, Some, None, Result, Ok, Err, IfOk}
+use Rattle.vrx_num.specs.declared.no_memory.NoMemory.{NoMemory}
 use Rattle.vrx_core.specs.SettingsFault.{fault_of}
 use Rattle.vrx_core.specs.declared.settings.Settings.{Settings}
 use Rattle.vrx_core.specs.declared.settings.NewFault.{NewFault}
-use Rattle.vrx_core.specs.declared.settings.NewFault.TheVariants.{NoMemory}
-use Rattle.vrx_text.specs.Line.{settings_in}
-use Rattle.vrx_text.specs.Reading.{longest_line}
-use Rattle.vrx_program.specs.Replay.{is_refused, accepted, settings_of}
+use Rattle.vrx_core.specs.declared.settings.NewFault.TheVariants as faults
+use Rattle.vrx_text.specs.Line.{longest_line}
+use Rattle.vrx_text.specs.SettingsLine.{settings_in}
+use Rattle.vrx_text.specs.declared.settings_line.CodecName.{CodecName}
+use Rattle.vrx_text.specs.declared.settings_line.CodecName.TheVariants.{Vp8, H264}
+use Rattle.vrx_text.specs.declared.transcript.ErrorReason.{ErrorReason}
+use Rattle.vrx_text.specs.declared.transcript.ErrorReason.TheVariants as errors
+use Rattle.vrx_program.specs.Replay.{taken, accepted, settings_of}
+use Rattle.vrx_program.specs.Inspect.{is_right, tells_right, is_head}
+use Rattle.vrx_program.specs.Plays.{hindrance_of}
+use Rattle.vrx_program.specs.declared.replay.Unopened.{Unopened}
+use Rattle.vrx_program.specs.declared.replay.Unopened.TheVariants as unopened
+use Rattle.vrx_program.proofs.PlaysLemmas.{settings-short}
+use Rattle.vrx_program.proofs.LooksLemmas.{head-short}
 
--- settings with a fault are refused: one that isn't want of memory is theirs
-pub refused-fault : (s : Settings) (fault other : NewFault) → fault ≡ other → other ≢ NoMemory → (fault ≡ NoMemory) ⊎ (fault_of s ≡ Some fault) → is_refused s ≡ true
-refused-fault s fault other same apart (inl memory) = absurd (apart (sym same ∙ memory))
-refused-fault s fault other same apart (inr is) = ap is_some is
+-- refusals are the same where their reasons are
+pub same_refusal : {A : Type 0} (a b : ErrorReason) → ◌≡◌ {A = Result A Unopened} (Err (unopened.Refused a)) (Err (unopened.Refused b)) → a ≡ b
+same_refusal a b e = cc e
 
--- and no others are
-pub refused-none : (s : Settings) → fault_of s ≡ None → is_refused s ≡ false
-refused-none s is = ap is_some is
+pub same_hindrance : {A : Type 0} (a : Unopened) (b : ErrorReason) → ◌≡◌ {A = Result A Unopened} (Err a) (Err (unopened.Refused b)) → a ≡ unopened.Refused b
+same_hindrance a b e = cc e
 
 module _ (line : List ℕ) (short : length line ≤ longest_line) where
-  -- what stands behind the test of the length
-  in_length : {A : Type 0} (x y : A) → cond (nat_lt longest_line (length line)) x y ≡ y
-  in_length x y = ap (λ b. cond b x y) (le-ltb longest_line (length line) short)
+  -- the line tells no settings
+  pub settings-none : settings_in line ≡ None → settings_of line ≡ Err errors.Settings
+  settings-none none = settings-short line short ∙ ap accepted none
 
-  pub settings-none : settings_in line ≡ None → settings_of line ≡ None
-  unfolding settings_of
-  settings-none none = in_length None _ ∙ ap (accepted) none
+  pub head-none : settings_in line ≡ None → is_head line ≡ false
+  head-none none = head-short line short ∙ ap tells_right none
 
-  pub settings-refused : (s : Settings) → settings_in line ≡ Some s → is_refused s ≡ true → settings_of line ≡ None
-  unfolding settings_of
-  settings-refused s told refused = in_length None _ ∙ ap (accepted) told ∙ ap (λ b. cond b None (Some s)) refused
+  -- it tells these settings
+  module _ (codec : CodecName) (settings : Settings) (told : settings_in line ≡ Some (codec, settings)) where
+    told-is : settings_of line ≡ taken codec settings (fault_of settings)
+    told-is = settings-short line short ∙ ap accepted told
 
-  pub settings-taken : (s : Settings) → settings_in line ≡ Some s → is_refused s ≡ false → settings_of line ≡ Some s
-  unfolding settings_of
-  settings-taken s told taken = in_length None _ ∙ ap (accepted) told ∙ ap (λ b. cond b None (Some s)) taken
+    head-is : is_head line ≡ is_right (fault_of settings)
+    head-is = head-short line short ∙ ap tells_right told
+
+    pub settings-taken : codec ≡ Vp8 → fault_of settings ≡ None → settings_of line ≡ Ok settings
+    settings-taken is none = told-is ∙ ap (taken codec settings) none ∙ ap (λ c. taken c settings None) is
+
+    pub settings-later : codec ≡ H264 → fault_of settings ≡ None → settings_of line ≡ Err errors.Later
+    settings-later is none = told-is ∙ ap (taken codec settings) none ∙ ap (λ c. taken c settings None) is
+
+    pub settings-refused : (fault : NewFault) (reason : ErrorReason) → (fault ≡ faults.NoMemory) ⊎ (fault_of settings ≡ Some fault) → hindrance_of fault ≡ unopened.Refused reason → settings_of line ≡ Err reason
+    settings-refused fault reason (inl memory) is = absurd (never (sym (ap hindrance_of memory) ∙ is)) where
+      never : unopened.NoMemory ≡ unopened.Refused reason → ⊥
+      never e = cc e
+    settings-refused fault reason (inr has) is = told-is ∙ ap (taken codec settings) has ∙ by_fault fault is where
+      same : (a b : ErrorReason) → unopened.Refused a ≡ unopened.Refused b → a ≡ b
+      same a b e = cc e
+
+      by_fault : (f : NewFault) → hindrance_of f ≡ unopened.Refused reason → taken codec settings (Some f) ≡ Err reason
+      by_fault faults.BadType e = ap Err (same errors.Settings reason e)
+      by_fault faults.SameType e = ap Err (same errors.Settings reason e)
+      by_fault faults.SameSsrc e = ap Err (same errors.Settings reason e)
+      by_fault faults.RedMissing e = ap Err (same errors.Settings reason e)
+      by_fault faults.BadInterval e = ap Err (same errors.Settings reason e)
+      by_fault faults.Later e = ap Err (same errors.Later reason e)
+      by_fault faults.NoMemory e = cc e
+
+    pub head-taken : fault_of settings ≡ None → is_head line ≡ true
+    head-taken none = head-is ∙ ap is_right none
+
+    head-fault : (fault : NewFault) → (fault ≡ faults.NoMemory) ⊎ (fault_of settings ≡ Some fault) → fault ≢ faults.NoMemory → is_head line ≡ is_right (Some fault)
+    head-fault fault (inl memory) other = absurd (other memory)
+    head-fault fault (inr has) other = head-is ∙ ap is_right has
+
+    pub head-right : (fault : NewFault) → (fault ≡ faults.NoMemory) ⊎ (fault_of settings ≡ Some fault) → (result : Result Bool NoMemory) → IfOk result (λ right. right ≡ is_right (Some fault)) → IfOk result (λ right. fault ≢ faults.NoMemory) → IfOk result (λ right. right ≡ is_head line)
+    head-right fault has (Ok right) is other = is ∙ sym (head-fault fault has other)
+    head-right fault has (Err none) is other = tt

@@ -1,13 +1,10 @@
--- How a replay ends.
-use Rattle.std.specs.Prelude.{◌≡◌, ℕ, List, ◌∷◌, ◌++◌, take, Option, IfSome, IsSomeAnd}
-use Rattle.vrx_io.specs.Source.{IsSpent}
+-- How a run of the program over a capture ends.
+use Rattle.std.specs.Prelude.{◌≡◌, ◌⊎◌, ◌≤◌, ℕ, length, List, [], ◌++◌, take, Option, Some, IfSome}
 use Rattle.vrx_io.specs.Sink.{extended, TakesPart}
-use Rattle.vrx_vp8.specs.Descriptor.{vp8}
-use Rattle.vrx_core.specs.StandsFor.{Parts, StandsFor}
-use Rattle.vrx_core.specs.declared.settings.Settings.{Settings}
-use Rattle.vrx_core.specs.declared.event.Event.{Event}
-use Rattle.vrx_text.specs.Reading.{Reading}
-use Rattle.vrx_program.specs.Replay.{Outcome, text_of_outcome, outcome_after}
+use Rattle.vrx_text.specs.Line.{longest_line}
+use Rattle.vrx_text.specs.Ahead.{ahead}
+use Rattle.vrx_text.specs.Reader.{AreWhole, HasNoFeed}
+use Rattle.vrx_program.specs.Outcome.{Outcome, text_of_outcome}
 use Rattle.vrx_program.specs.declared.status.Status.{Status}
 use Rattle.vrx_program.specs.declared.status.Status.TheVariants as statuses
 
@@ -15,21 +12,39 @@ use Rattle.vrx_program.specs.declared.status.Status.TheVariants as statuses
 abbrev pub TookFront : Option (List ℕ) → Option (List ℕ) → List ℕ → Type 0
 TookFront before after text = (n : ℕ) × (after ≡ extended before (take n text))
 
--- how a run ends, of which this is the outcome: what the sink took before and after it, and what the source has left
-abbrev pub Ends : Status → Outcome → Option (List ℕ) → Option (List ℕ) → Option (List ℕ) → Type 0
--- no line is bad: the sink took exactly the text, and the source was read to its end
-Ends statuses.Done outcome before after left = (outcome.status ≡ statuses.Done) × (after ≡ extended before (text_of_outcome outcome)) × IsSpent left
--- a line is bad: the sink took exactly the text, with the error line
-Ends statuses.BadCapture outcome before after left = (outcome.status ≡ statuses.BadCapture) × (after ≡ extended before (text_of_outcome outcome))
--- a read failed: the sink took lines of the events from the first on, and nothing of an error line
-Ends statuses.ReadFault outcome before after left = TookFront before after outcome.told
--- a write failed: the sink took a part of the text, and not all of it
-Ends statuses.WriteFault outcome before after left = TakesPart before after (text_of_outcome outcome)
--- memory ran out: the sink took a part of the text, or all of it
-Ends statuses.NoMemory outcome before after left = TookFront before after (text_of_outcome outcome)
-Ends statuses.BadUsage outcome before after left = ⊥
+-- a sink took exactly the text of the whole lines that were read of a capture
+pub record TookLines (outcome : List ℕ → Outcome) (capture : List ℕ) (before after left : Option (List ℕ)) : Type 0 where
+  -- what was read: whole lines, and a part of a line behind them
+  pub lines : List ℕ
+  pub part : List ℕ
+  pub read : Some capture ≡ ahead (lines ++ part) left
+  pub whole : AreWhole lines
+  pub no_feed : HasNoFeed part
+  -- none of the lines is refused, and the part isn't too long already
+  pub right : (lines ≡ []) ⊎ ((outcome lines).status ≡ statuses.Done)
+  pub short : length part ≤ longest_line
+  pub took : after ≡ extended before (outcome lines).told
 
--- how a run ends at a bad line, of which this text tells
+-- how a run over a capture ends, which gives this outcome of each capture: what the sink took before and after it, and what
+-- the source has left
+abbrev pub Ends : (List ℕ → Outcome) → Status → List ℕ → Option (List ℕ) → Option (List ℕ) → Option (List ℕ) → Type 0
+-- no line is refused: the sink took exactly the text, and the source has nothing left
+Ends outcome statuses.Done capture before after left = ((outcome capture).status ≡ statuses.Done) × (after ≡ extended before (text_of_outcome (outcome capture))) × (left ≡ Some [])
+-- a line is refused: the sink took exactly the text, with the error line
+Ends outcome statuses.BadCapture capture before after left = ((outcome capture).status ≡ statuses.BadCapture) × (after ≡ extended before (text_of_outcome (outcome capture)))
+-- a read failed: the sink took exactly the text of the whole lines read before
+Ends outcome statuses.ReadFault capture before after left = TookLines outcome capture before after left
+-- a write failed: the sink took a part of the text, and not all of it
+Ends outcome statuses.WriteFault capture before after left = TakesPart before after (text_of_outcome (outcome capture))
+-- memory ran out: the sink took a part of the text, or all of it
+Ends outcome statuses.NoMemory capture before after left = TookFront before after (text_of_outcome (outcome capture))
+Ends outcome statuses.BadUsage capture before after left = ⊥
+
+-- how a run ends over this source and sink, where the source tells its bytes
+abbrev pub EndsOver : (List ℕ → Outcome) → Status → Option (List ℕ) → Option (List ℕ) → Option (List ℕ) → Option (List ℕ) → Type 0
+EndsOver outcome status source sink left taken = IfSome source (λ capture. Ends outcome status capture sink taken left)
+
+-- how a run ends at a line that is refused, of which this text tells
 abbrev pub EndsBadly : Status → List ℕ → Option (List ℕ) → Option (List ℕ) → Type 0
 EndsBadly statuses.BadCapture text before after = after ≡ extended before text
 EndsBadly statuses.WriteFault text before after = TakesPart before after text
@@ -46,20 +61,3 @@ EndsAmid statuses.Done text before after = ⊥
 EndsAmid statuses.BadUsage text before after = ⊥
 EndsAmid statuses.BadCapture text before after = ⊥
 EndsAmid statuses.ReadFault text before after = ⊥
-
--- what is due after a history: this text, and then what this reading gives after that history
-pub record Leads (settings : Settings) (h : List Event) (r : Reading) (text : List ℕ) (later : List Event) (rest : Reading) : Type 0 where
-  pub told : (outcome_after settings h r).told ≡ text ++ (outcome_after settings later rest).told
-  pub same : rest.bad ≡ r.bad
-
--- a run goes on behind one event more: the engine stands for the history with it, and the sink took its text
-pub record GoesOn (settings : Settings) (h : List Event) (engine : Parts) (was now : Option Reading) (before after : Option (List ℕ)) : Type 0 where
-  pub event : Event
-  pub stands : StandsFor vp8 engine (event ∷ h)
-  pub text : List ℕ
-  pub wrote : after ≡ extended before text
-  pub rest : IfSome was (λ r. IsSomeAnd now (λ later. Leads settings h r text (event ∷ h) later))
-
--- a run ends, of what was due after a history
-abbrev pub EndsAfter : Settings → List Event → Status → Option Reading → Option (List ℕ) → Option (List ℕ) → Option (List ℕ) → Type 0
-EndsAfter settings h status was before after left = IfSome was (λ r. Ends status (outcome_after settings h r) before after left)

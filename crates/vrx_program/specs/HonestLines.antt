@@ -1,5 +1,5 @@
 -- The lines of an honest call.
-use Rattle.std.specs.Prelude.{◌≡◌, ◌⊎◌, ℕ, List, [], ◌∷◌, ◌++◌, map, Option, Some, IsSomeAnd}
+use Rattle.std.specs.Prelude.{◌≡◌, ◌⊎◌, ℕ, List, [], ◌∷◌, ◌++◌, map, Option, Ok, IsOkAnd}
 use Rattle.vrx_vp8.specs.Descriptor.{vp8}
 use Rattle.vrx_core.specs.Machine.{Reply, replies}
 use Rattle.vrx_core.specs.Sender.{Sender}
@@ -9,18 +9,19 @@ use Rattle.vrx_core.specs.HonestCall.{HonestCall}
 use Rattle.vrx_core.specs.declared.event.Event.{Event}
 use Rattle.vrx_text.specs.Transcript.{text_of}
 use Rattle.vrx_io.specs.Sink.{extended}
-use Rattle.vrx_program.specs.Replay.{Call, call_of, error_text}
+use Rattle.vrx_program.specs.Replay.{Call, call_of}
+use Rattle.vrx_program.specs.Outcome.{error_text}
 use Rattle.vrx_program.specs.Ends.{TookFront}
 use Rattle.vrx_program.specs.declared.status.Status.{Status}
 use Rattle.vrx_program.specs.declared.status.Status.TheVariants.{Done, BadCapture}
 
 -- the events of a call, up to the first bad line
 abbrev pub events_of : Call → List Event
-events_of call = map (λ line. line.1) call.reading.events
+events_of call = map (λ line. line.1) call.events
 
 -- a capture's datagrams are what an honest network took from this sender, up to the first bad line
 abbrev pub IsHonestCapture : List ℕ → Sender → List Origin → Type 0
-IsHonestCapture capture sender origins = IsSomeAnd (call_of capture) (λ call.
+IsHonestCapture capture sender origins = IsOkAnd (call_of capture) (λ call.
     HonestSender call.settings vp8 sender × HonestNetwork call.settings vp8 sender [] [] (events_of call) origins)
 
 -- the lines of replies, each with the number of its event's line
@@ -35,7 +36,7 @@ replies_of call = replies call.settings vp8 [] (events_of call)
 
 -- the text of a call: the lines of the machine's replies, and then the error line, where a line is bad
 abbrev pub call_text : Call → List ℕ
-call_text call = lines_text call.reading.events (replies_of call) ++ error_text call.reading.bad
+call_text call = lines_text call.events (replies_of call) ++ error_text call.bad
 
 -- what the sink took in a replay that ended so is the lines of the machine's replies, and these are an honest call: at
 -- its pulls the sender's frames, byte for byte, in order, each at most once, from a keyframe on, after all their
@@ -43,7 +44,7 @@ call_text call = lines_text call.reading.events (replies_of call) ++ error_text 
 -- line, else a part from the front
 pub record HonestLines (capture : List ℕ) (sender : Sender) (origins : List Origin) (status : Status) (before after : Option (List ℕ)) : Type 0 where
   pub call : Call
-  pub told : call_of capture ≡ Some call
+  pub told : call_of capture ≡ Ok call
   pub honest : HonestCall call.settings vp8 sender (events_of call) origins (replies_of call)
   pub took : TookFront before after (call_text call)
   pub whole : (status ≡ Done) ⊎ (status ≡ BadCapture) → after ≡ extended before (call_text call)

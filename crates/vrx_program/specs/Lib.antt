@@ -1,5 +1,10 @@
-pub mod Words
+pub mod Outcome
 pub mod Replay
+pub mod Inspect
+pub mod Words
 pub mod Ends
+pub mod HasRead
+pub mod Plays
+pub mod Looks
 pub mod HonestLines
 pub mod Number

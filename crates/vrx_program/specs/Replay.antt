@@ -1,78 +1,90 @@
 -- What a replay of a capture gives: a status and a text.
-use Rattle.std.specs.Prelude.{ℕ, Bool, nat_lt, if◌then◌else◌, List, [], ◌∷◌, ◌++◌, length, Option, Some, None, is_some}
+use Rattle.std.specs.Prelude.{ℕ, Bool, nat_lt, if◌then◌else◌, List, [], ◌∷◌, ◌++◌, length, Option, Some, None, Result, Ok, Err}
 use Rattle.vrx_vp8.specs.Descriptor.{vp8}
 use Rattle.vrx_core.specs.SettingsFault.{fault_of}
 use Rattle.vrx_core.specs.declared.settings.Settings.{Settings}
+use Rattle.vrx_core.specs.declared.settings.NewFault.{NewFault}
+use Rattle.vrx_core.specs.declared.settings.NewFault.TheVariants as faults
 use Rattle.vrx_core.specs.declared.event.Event.{Event}
-use Rattle.vrx_text.specs.Line.{lines_of, settings_in}
-use Rattle.vrx_text.specs.Reading.{Reading, longest_line, reading}
+use Rattle.vrx_core.specs.declared.event.Event.TheVariants.{Datagram, Tick, Pull}
+use Rattle.vrx_text.specs.Line.{lines_of, longest_line}
+use Rattle.vrx_text.specs.Reading.{Reading, reading}
+use Rattle.vrx_text.specs.SettingsLine.{settings_in}
 use Rattle.vrx_text.specs.Transcript.{transcript, error_line}
-use Rattle.vrx_program.specs.declared.status.Status.{Status}
-use Rattle.vrx_program.specs.declared.status.Status.TheVariants.{Done, BadCapture}
+use Rattle.vrx_text.specs.declared.line.LineReason.{LineReason}
+use Rattle.vrx_text.specs.declared.settings_line.CodecName.{CodecName}
+use Rattle.vrx_text.specs.declared.settings_line.CodecName.TheVariants.{Vp8, H264}
+use Rattle.vrx_text.specs.declared.transcript.ErrorReason.{ErrorReason}
+use Rattle.vrx_text.specs.declared.transcript.ErrorReason.TheVariants as errors
+use Rattle.vrx_program.specs.Outcome.{Outcome, refused, status_of, error_text}
 
 -- an engine takes so many events at most
 abbrev pub most_events : ℕ
 most_events = 1048576
 
--- the engine refuses settings: they have a fault
-abbrev pub is_refused : Settings → Bool
-is_refused settings = is_some (fault_of settings)
+-- settings with this codec and this fault, if any: the fault is the line's; but RED, retransmissions and H.264 are right,
+-- and not taken so far
+abbrev pub taken : CodecName → Settings → Option NewFault → Result Settings ErrorReason
+taken codec settings (Some faults.Later) = Err errors.Later
+taken codec settings (Some fault) = Err errors.Settings
+taken Vp8 settings None = Ok settings
+taken H264 settings None = Err errors.Later
 
--- a call, as a capture tells it: its settings, and what its lines give
+-- the settings that a settings line tells, or why it is refused
+abbrev pub accepted : Option (CodecName × Settings) → Result Settings ErrorReason
+accepted None = Err errors.Settings
+accepted (Some (codec, settings)) = taken codec settings (fault_of settings)
+
+-- the settings that the first line tells, or why it is refused
+unfoldable pub settings_of : List ℕ → Result Settings ErrorReason
+settings_of line = if nat_lt longest_line (length line) then Err errors.Settings else accepted (settings_in line)
+
+-- a call, as a capture tells it: its settings, its events in order, each with the number of its line, up to the first line
+-- that is refused; and that line with the reason, where there is one
 pub record Call : Type 0 where
   pub settings : Settings
-  pub reading : Reading
+  pub events : List (ℕ × Event)
+  pub bad : Option (ℕ × ErrorReason)
 
--- settings that the engine takes
-abbrev pub accepted : Option Settings → Option Settings
-accepted None = None
-accepted (Some settings) = if is_refused settings then None else Some settings
+-- the events before the first tick
+abbrev pub before_tick : List (ℕ × Event) → List (ℕ × Event)
+before_tick [] = []
+before_tick ((k, Tick moment) ∷ lines) = []
+before_tick ((k, event) ∷ lines) = (k, event) ∷ before_tick lines
 
--- the settings that the first line tells, where it isn't too long and the engine takes them
-unfoldable pub settings_of : List ℕ → Option Settings
-settings_of line = if nat_lt longest_line (length line) then None else accepted (settings_in line)
+-- the line of the first tick
+abbrev pub first_tick : List (ℕ × Event) → Option ℕ
+first_tick [] = None
+first_tick ((k, Tick moment) ∷ lines) = Some k
+first_tick ((k, event) ∷ lines) = first_tick lines
 
--- the call with these settings, of the lines behind the first
-abbrev pub call_with : Option Settings → List (List ℕ) → Option Call
-call_with None lines = None
-call_with (Some settings) lines = Some (record { settings = settings; reading = reading most_events 2 0 lines })
+-- the first line that is refused: that of the first tick, since ticks are right and not taken so far, or the bad line
+abbrev pub first_refused : Option ℕ → Option (ℕ × LineReason) → Option (ℕ × ErrorReason)
+first_refused (Some k) bad = Some (k, errors.Later)
+first_refused None (Some (k, reason)) = Some (k, errors.Line reason)
+first_refused None None = None
 
--- the call of these lines: none where the first line is bad or absent
-abbrev pub call_in : List (List ℕ) → Option Call
-call_in [] = None
-call_in (line ∷ lines) = call_with (settings_of line) lines
+-- the call with these settings, of what the lines behind the first give
+abbrev pub call_with : Settings → Reading → Call
+call_with settings r = record { settings = settings; events = before_tick r.events; bad = first_refused (first_tick r.events) r.bad }
 
-abbrev pub call_of : List ℕ → Option Call
+-- the call of the first line, which tells these settings or is refused, and of the others
+abbrev pub call_from : Result Settings ErrorReason → List (List ℕ) → Result Call ErrorReason
+call_from (Err reason) lines = Err reason
+call_from (Ok settings) lines = Ok (call_with settings (reading most_events 2 0 lines))
+
+-- the call of these lines, or why the first is refused: an absent one tells no settings
+abbrev pub call_in : List (List ℕ) → Result Call ErrorReason
+call_in [] = Err errors.Settings
+call_in (line ∷ lines) = call_from (settings_of line) lines
+
+abbrev pub call_of : List ℕ → Result Call ErrorReason
 call_of capture = call_in (lines_of capture)
 
--- the last line, where a line is bad
-abbrev pub error_text : Option ℕ → List ℕ
-error_text None = []
-error_text (Some k) = error_line k
-
--- Done where no line is bad
-abbrev pub status_of : Option ℕ → Status
-status_of None = Done
-status_of (Some k) = BadCapture
-
--- how a replay ends: its status, the lines of the events, and the error line, where there is one
-pub record Outcome : Type 0 where
-  pub status : Status
-  pub told : List ℕ
-  pub last : List ℕ
-
--- the whole text
-abbrev pub text_of_outcome : Outcome → List ℕ
-text_of_outcome outcome = outcome.told ++ outcome.last
-
--- the outcome of what a reading gives after a history
-abbrev pub outcome_after : Settings → List Event → Reading → Outcome
-outcome_after settings h r = record { status = status_of r.bad; told = transcript settings vp8 h r.events; last = error_text r.bad }
-
--- a call without settings is bad in its first line
-abbrev pub outcome_of : Option Call → Outcome
-outcome_of None = record { status = BadCapture; told = []; last = error_line 1 }
-outcome_of (Some call) = outcome_after call.settings [] call.reading
+-- what a replay of a call gives, or of a first line that is refused
+abbrev pub outcome_of : Result Call ErrorReason → Outcome
+outcome_of (Err reason) = refused reason
+outcome_of (Ok call) = record { status = status_of call.bad; told = transcript call.settings vp8 [] call.events; last = error_text call.bad }
 
 -- what a replay of a capture gives
 abbrev pub replayed : List ℕ → Outcome

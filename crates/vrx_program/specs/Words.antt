@@ -1,6 +1,20 @@
--- The words of a call of the program.
+-- The words of a call of the program, and what each gives.
 use Rattle.std.specs.Prelude.{◌≡◌, ℕ, List, [], ◌∷◌, codes}
+use Rattle.vrx_program.specs.Outcome.{Outcome}
+use Rattle.vrx_program.specs.Replay.{replayed}
+use Rattle.vrx_program.specs.Inspect.{inspected}
+use Rattle.vrx_program.specs.declared.word.Word.{Word}
+use Rattle.vrx_program.specs.declared.word.Word.TheVariants.{Replay, Inspect}
 
--- the one word replay
-abbrev pub IsReplay : List (List ℕ) → Type 0
-IsReplay words = words ≡ codes "replay" ∷ []
+abbrev pub word_text : Word → List ℕ
+word_text Replay = codes "replay"
+word_text Inspect = codes "inspect"
+
+-- the words are this one alone
+abbrev pub IsWord : Word → List (List ℕ) → Type 0
+IsWord word words = words ≡ word_text word ∷ []
+
+-- what a run with this word gives of a capture
+abbrev pub gives : Word → List ℕ → Outcome
+gives Replay capture = replayed capture
+gives Inspect capture = inspected capture

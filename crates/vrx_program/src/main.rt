@@ -1,4 +1,4 @@
-//! Replays a captured call: it reads a capture, and writes what the receiver replies to each event.
+//! Replays captured calls, and tells what their datagrams are.
 //!
 //! `run` is the program over any source and sink, and carries its theorem; `main` runs it over the standard streams.
 #![tactic(auto)]
@@ -8,26 +8,33 @@ ghost use Rattle.std.specs.String.{string_bytes};
 ghost use Rattle.vrx_io.specs.Faults.{Rose};
 ghost use Rattle.vrx_core.specs.Sender.{Sender};
 ghost use Rattle.vrx_core.specs.HonestNetwork.{Origin};
-ghost use Rattle.vrx_program.specs.Words.{IsReplay};
-ghost use Rattle.vrx_program.specs.Replay.{replayed};
+ghost use Rattle.vrx_program.specs.Words.{IsWord, gives};
 ghost use Rattle.vrx_program.specs.Ends.{Ends};
 ghost use Rattle.vrx_program.specs.HonestLines.{IsHonestCapture, HonestLines};
 
+mod inspect;
+mod refuse;
 mod replay;
 mod status;
 #[cfg(test)]
 mod tests;
+mod word;
 
-use crate::replay::{is_replay, replay};
+use crate::inspect::inspect;
+use crate::replay::replay;
 pub use crate::status::Status;
+pub use crate::word::Word;
+use crate::word::word_of;
 use std::alloc::Global;
 use std::io::ErrorKind;
 use std::process::ExitCode;
 use std::{env, io};
 use vrx_core::honest_call;
 use vrx_io::{Sink, Source, StdSink, StdSource};
+use vrx_text::lines_join;
 
-/// Runs the program: `replay` reads a capture from the source, and writes its transcript to the sink.
+/// Runs the program: `replay` reads a capture from the source and writes its transcript to the sink, and `inspect` writes
+/// what each of its datagrams is.
 ///
 /// What the clauses say of content, they say where the source tells its bytes. What the sink took is what it took in
 /// this call.
@@ -37,14 +44,15 @@ pub fn run<S: Source, K: Sink>(
     source: &mut S,
     sink: &mut K,
 ) -> Status
-    // The words: any others than the one word `replay` are bad usage, and then nothing is read or written.
-    ensures usage { (result ≡ Status.BadUsage) ↔ (¬ IsReplay (map string_bytes words.now)) }
+    // The words: any others than one word that the program knows are bad usage, and then nothing is read or written.
+    ensures usage { (result ≡ Status.BadUsage) ↔ ((word : Word) → ¬ IsWord word (map string_bytes words.now)) }
     ensures untouched { result ≡ Status.BadUsage →
         (source.new ≡ source.old) × (sink.new ≡ sink.old) }
 
-    // The status and the text are the machine's: all of it on Done and BadCapture, a part from its front else.
-    ensures outcome { IsReplay (map string_bytes words.now) → IfSome (S.left source.old) (λ capture.
-        Ends result (replayed capture) (K.taken sink.old) (K.taken sink.new) (S.left source.new)) }
+    // The status and the text are those that the word gives of the capture: all of the text on Done and BadCapture, that of
+    // the whole lines read on ReadFault, and a part from its front else.
+    ensures outcome { (word : Word) → IsWord word (map string_bytes words.now) → IfSome (S.left source.old) (λ capture.
+        Ends (gives word) result capture (K.taken sink.old) (K.taken sink.new) (S.left source.new)) }
 
     // A fault comes only where the object that was handed in counted one in this call.
     ensures read_fault { result ≡ Status.ReadFault →
@@ -55,24 +63,24 @@ pub fn run<S: Source, K: Sink>(
     ensures read_later { S.faults source.old ≤ S.faults source.new }
     ensures write_later { K.faults sink.old ≤ K.faults sink.new }
 
-    // With the right words, no bad line and no fault, the run is Done, unless memory runs out.
-    ensures complete { IsReplay (map string_bytes words.now) →
+    // With a right word and no fault, the run ends as the capture says, unless memory runs out.
+    ensures complete { (word : Word) → IsWord word (map string_bytes words.now) →
         ¬ Rose (S.faults source.old) (S.faults source.new) → ¬ Rose (K.faults sink.old) (K.faults sink.new) →
-        IfSome (S.left source.old) (λ capture. (replayed capture).status ≡ Status.Done →
-        (result ≡ Status.Done) ⊎ (result ≡ Status.NoMemory)) }
+        IfSome (S.left source.old) (λ capture. (result ≡ (gives word capture).status) ⊎ (result ≡ Status.NoMemory)) }
 
     // The honest call: where an honest network took the datagrams of the capture from one honest sender, the frames
     // pulled are that sender's, byte for byte, in order, each at most once, from a keyframe on, after all their
     // references, and notready comes exactly where no frame is ready.
-    ensures honest { IsReplay (map string_bytes words.now) → IfSome (S.left source.old) (λ capture.
+    ensures honest { IsWord Word.Replay (map string_bytes words.now) → IfSome (S.left source.old) (λ capture.
         (sender : Sender) (origins : List Origin) → IsHonestCapture capture sender origins →
         HonestLines capture sender origins result (K.taken sink.old) (K.taken sink.new)) }
 {
     honest_call();
-    if is_replay(words) {
-        replay(alloc, source, sink)
-    } else {
-        Status::BadUsage
+    lines_join();
+    match word_of(words) {
+        Some(Word::Replay) => replay(alloc, source, sink),
+        Some(Word::Inspect) => inspect(alloc, source, sink),
+        None => Status::BadUsage,
     }
 }
 

@@ -1,72 +1,50 @@
 //! The word replay: a capture in, its transcript out.
 
-ghost use Rattle.std.specs.Prelude.{◌≡◌, ◌≢◌, ℕ, ◌+◌, ◌<◌, ◌≤◌, ◌↔◌, ◌⊎◌, List, [], ◌∷◌, map, Option, None, Some, IfSome, IfNone, is_some, IsTrue, length, OnOk, OnErr, IfOk, MatchOption};
-ghost use Rattle.std.specs.String.{string_bytes};
+ghost use Rattle.std.specs.Prelude.{is_some, ◌≡◌, ◌≢◌, ℕ, ◌+◌, ◌<◌, ◌≤◌, List, [], ◌∷◌, Ok, Err, Option, Some, IfSome, IfNone, length, IfOk, MatchOption, vec_len};
+ghost use Rattle.std.specs.Option.{option_map};
 ghost use Rattle.vrx_io.specs.Faults.{Rose};
-ghost use Rattle.vrx_io.specs.Sink.{extended};
 ghost use Rattle.vrx_vp8.specs.Descriptor.{vp8};
-ghost use Rattle.vrx_core.specs.Machine.{reply};
 ghost use Rattle.vrx_core.specs.StandsFor.{StandsFor};
 ghost use Rattle.vrx_core.specs.declared.event.Event.{Event};
-ghost use Rattle.vrx_text.specs.Transcript.{text_of, error_line};
-ghost use Rattle.vrx_program.specs.Words.{IsReplay};
+ghost use Rattle.vrx_text.specs.Line.{longest_line};
+ghost use Rattle.vrx_text.specs.Transcript.{error_line};
 ghost use Rattle.vrx_program.specs.Replay.{settings_of, replayed};
-ghost use Rattle.vrx_program.specs.Ends.{Ends, EndsBadly, EndsAmid, GoesOn, EndsAfter};
-ghost use Rattle.vrx_text.specs.Reader.{due};
-ghost use Rattle.vrx_text.specs.Reading.{longest_line};
+ghost use Rattle.vrx_program.specs.Ends.{EndsOver};
+ghost use Rattle.vrx_program.specs.Plays.{IsAnswered, Happens, Plays, hindrance_of};
 
+use crate::refuse::refuse;
 use crate::status::Status;
 use std::alloc::Global;
 use vrx_core::{Engine, Event, MOST_EVENTS, NewFault};
 use vrx_io::{Sink, Source, put};
 use vrx_num::NoMemory;
 use vrx_text::{
-    HeadFault, Line, LineFault, Lines, read_settings, text_of_error, text_of_handled,
-    text_of_pulled,
+    CodecName, ErrorReason, HeadFault, Line, LineFault, Lines, lines_join, read_settings,
+    text_of_handled, text_of_pulled,
 };
 
-/// Whether the words are the one word `replay`.
-pub(crate) fn is_replay(words: &[String]) -> bool
-    ensures { IsTrue result ↔ IsReplay (map string_bytes words.now) }
-{
-    match words {
-        [word] => word.as_str() == "replay",
-        _ => false,
-    }
-}
-
-/// Ends a run at a bad line.
-fn refuse<K: Sink>(alloc: Global, k: u32, sink: &mut K) -> Status
-    ensures ends { EndsBadly result (error_line k) (K.taken sink.old) (K.taken sink.new) }
-    ensures cause { result ≡ Status.WriteFault → Rose (K.faults sink.old) (K.faults sink.new) }
-    ensures later { K.faults sink.old ≤ K.faults sink.new }
-{
-    let Ok(text) = text_of_error(alloc, k) else {
-        return Status::NoMemory;
-    };
-    match put(sink, text.as_slice()) {
-        Ok(()) => Status::BadCapture,
-        Err(_) => Status::WriteFault,
-    }
-}
-
-/// The text of the reply to an event, which the engine takes.
-fn answer(alloc: Global, engine: &mut Engine, k: u32, event: &Event) -> Result<Vec<u8>, NoMemory>
+/// The text of the reply to an event: none to a tick, which isn't taken so far.
+fn answer(
+    alloc: Global,
+    engine: &mut Engine,
+    k: u32,
+    event: &Event,
+) -> Result<Option<Vec<u8>>, NoMemory>
     requires { engine.old.events < 1048576 }
-    ensures stands { (h : List Event) → StandsFor vp8 engine.old h →
-        OnOk result (StandsFor vp8 engine.new (event.now ∷ h)) }
-    ensures text { (h : List Event) → StandsFor vp8 engine.old h →
-        IfOk result (λ text. text.items ≡ text_of k (reply engine.old.settings vp8 h event.now)) }
+    ensures answered { (h : List Event) → StandsFor vp8 engine.old h → IfOk result (λ text.
+        IsAnswered engine.old engine.new h k event.now (option_map (λ t. t.items) text)) }
+    ensures counted { IfOk result (λ text. IfSome text (λ _. engine.new.events ≡ engine.old.events + 1)) }
     ensures settings { engine.new.settings ≡ engine.old.settings }
 {
     match event {
         Event::Datagram { moment, bytes } => {
             let handled = engine.datagram(*moment, bytes.as_slice())?;
-            text_of_handled(alloc, k, &handled)
+            Ok(Some(text_of_handled(alloc, k, &handled)?))
         }
+        Event::Tick { .. } => Ok(None),
         Event::Pull { moment } => {
             let pulled = engine.pull(*moment)?;
-            text_of_pulled(alloc, k, &pulled)
+            Ok(Some(text_of_pulled(alloc, k, &pulled)?))
         }
     }
 }
@@ -80,23 +58,20 @@ fn happen<K: Sink>(
     sink: &mut K,
 ) -> Option<Status>
     requires { engine.old.events < 1048576 }
-    ensures stands { (h : List Event) → StandsFor vp8 engine.old h →
-        IfNone result (StandsFor vp8 engine.new (event.now ∷ h)) }
-    ensures wrote { (h : List Event) → StandsFor vp8 engine.old h →
-        IfNone result (K.taken sink.new ≡ extended (K.taken sink.old) (text_of k (reply engine.old.settings vp8 h event.now))) }
-    ensures ends { (h : List Event) → StandsFor vp8 engine.old h → IfSome result (λ status.
-        EndsAmid status (text_of k (reply engine.old.settings vp8 h event.now)) (K.taken sink.old) (K.taken sink.new)) }
+    ensures happens { (h : List Event) → StandsFor vp8 engine.old h → Happens engine.old engine.new h k event.now result (K.taken sink.old) (K.taken sink.new) }
     ensures settings { engine.new.settings ≡ engine.old.settings }
-    ensures status { IfSome result (λ status. (status ≡ Status.NoMemory) ⊎ (status ≡ Status.WriteFault)) }
+    ensures counted { IfNone result (engine.new.events ≡ engine.old.events + 1) }
+    ensures status { (result ≢ Some Status.BadUsage) × (result ≢ Some Status.ReadFault) }
     ensures cause { result ≡ Some Status.WriteFault → Rose (K.faults sink.old) (K.faults sink.new) }
     ensures later { K.faults sink.old ≤ K.faults sink.new }
 {
-    let Ok(reply) = answer(alloc, engine, k, event) else {
-        return Some(Status::NoMemory);
-    };
-    match put(sink, reply.as_slice()) {
-        Ok(()) => None,
-        Err(_) => Some(Status::WriteFault),
+    match answer(alloc, engine, k, event) {
+        Ok(Some(text)) => match put(sink, text.as_slice()) {
+            Ok(()) => None,
+            Err(_) => Some(Status::WriteFault),
+        },
+        Ok(None) => Some(refuse(alloc, k, ErrorReason::Later, sink)),
+        Err(_) => Some(Status::NoMemory),
     }
 }
 
@@ -110,11 +85,10 @@ fn step<S: Source, K: Sink>(
 ) -> Option<Status>
     requires room { lines.old.max ≡ 1048576 }
     requires count { engine.old.events ≡ lines.old.events }
-    ensures replies { (h : List Event) → StandsFor vp8 engine.old h → MatchOption result
-        (GoesOn engine.old.settings h engine.new (due lines.old (S.left source.old)) (due lines.new (S.left source.new)) (K.taken sink.old) (K.taken sink.new))
-        (λ status. EndsAfter engine.old.settings h status (due lines.old (S.left source.old)) (K.taken sink.old) (K.taken sink.new) (S.left source.new)) }
-    ensures settings { engine.new.settings ≡ engine.old.settings }
-    ensures counted { IfNone result ((lines.new.events ≡ lines.old.events + 1) × (lines.new.events ≤ 1048576)) }
+    ensures plays { (before opening : Option (List ℕ)) → Plays before opening engine.old lines.old (S.left source.old) (K.taken sink.old) → MatchOption result
+        (Plays before opening engine.new lines.new (S.left source.new) (K.taken sink.new))
+        (λ status. EndsOver replayed status before opening (S.left source.new) (K.taken sink.new)) }
+    ensures counted { IfNone result ((engine.new.events ≡ lines.new.events) × (lines.new.events ≡ lines.old.events + 1) × (lines.new.events ≤ 1048576)) }
     ensures room { lines.new.max ≡ lines.old.max }
     ensures status { result ≢ Some Status.BadUsage }
     ensures read_fault { result ≡ Some Status.ReadFault →
@@ -125,10 +99,13 @@ fn step<S: Source, K: Sink>(
     ensures read_later { S.faults source.old ≤ S.faults source.new }
     ensures write_later { K.faults sink.old ≤ K.faults sink.new }
 {
+    lines_join();
     match lines.next(source) {
         Ok(Line::Event { k, event }) => happen(alloc, engine, k, &event, sink),
         Ok(Line::End) => Some(Status::Done),
-        Err(LineFault::Bad { k }) => Some(refuse(alloc, k, sink)),
+        Err(LineFault::Bad { k, reason }) => {
+            Some(refuse(alloc, k, ErrorReason::Line(reason), sink))
+        }
         Err(LineFault::ReadFault) => Some(Status::ReadFault),
         Err(LineFault::NoMemory) => Some(Status::NoMemory),
     }
@@ -143,9 +120,8 @@ fn play<S: Source, K: Sink>(
     sink: &mut K,
 ) -> Status
     requires room { lines.max ≡ 1048576 }
-    requires count { lines.events ≡ 0 }
-    requires fresh { StandsFor vp8 engine [] }
-    ensures ends { EndsAfter engine.settings [] result (due lines (S.left source.old)) (K.taken sink.old) (K.taken sink.new) (S.left source.new) }
+    requires count { (lines.events ≡ 0) × (engine.events ≡ 0) }
+    ensures ends { (before opening : Option (List ℕ)) → Plays before opening engine lines (S.left source.old) (K.taken sink.old) → EndsOver replayed result before opening (S.left source.new) (K.taken sink.new) }
     ensures status { result ≢ Status.BadUsage }
     ensures read_fault { result ≡ Status.ReadFault →
         Rose (S.faults source.old) (S.faults source.new) }
@@ -162,33 +138,51 @@ fn play<S: Source, K: Sink>(
     }
 }
 
-/// The engine that the settings line of a capture asks for: none where the line is bad or the settings are refused.
-fn opened(alloc: Global, line: &[u8]) -> Result<Option<Engine>, NoMemory>
-    requires { length line.now ≤ longest_line }
-    ensures refused { IfOk result (λ opened. IfNone opened (settings_of line.now ≡ None)) }
-    ensures settings { IfOk result (λ opened.
-        IfSome opened (λ engine. settings_of line.now ≡ Some engine.settings)) }
-    ensures stands { IfOk result (λ opened. IfSome opened (λ engine. StandsFor vp8 engine [])) }
+/// Why no engine stands for the settings line.
+enum Unopened {
+    /// The line is refused.
+    Refused(ErrorReason),
+    /// No memory was to be had.
+    NoMemory,
+}
+
+/// Why no engine stands for settings with a fault: RED and retransmissions are right, and not taken so far.
+fn hindered_by(fault: NewFault) -> Unopened
+    ensures { result ≡ hindrance_of fault }
 {
-    let Some(settings) = read_settings(line) else {
-        return Ok(None);
+    match fault {
+        NewFault::NoMemory => Unopened::NoMemory,
+        NewFault::Later => Unopened::Refused(ErrorReason::Later),
+        NewFault::BadType => Unopened::Refused(ErrorReason::Settings),
+        NewFault::SameType => Unopened::Refused(ErrorReason::Settings),
+        NewFault::SameSsrc => Unopened::Refused(ErrorReason::Settings),
+        NewFault::RedMissing => Unopened::Refused(ErrorReason::Settings),
+        NewFault::BadInterval => Unopened::Refused(ErrorReason::Settings),
+    }
+}
+
+/// The engine that the settings line of a capture asks for, where the line isn't refused. H.264 isn't taken so far.
+fn opened(alloc: Global, line: &[u8]) -> Result<Engine, Unopened>
+    requires { length line.now ≤ longest_line }
+    ensures settings { IfOk result (λ engine. settings_of line.now ≡ Ok engine.settings) }
+    ensures stands { IfOk result (λ engine. StandsFor vp8 engine []) }
+    ensures refused { (reason : ErrorReason) → result ≡ Err (Unopened.Refused reason) → settings_of line.now ≡ Err reason }
+{
+    let Some((codec, settings)) = read_settings(line) else {
+        return Err(Unopened::Refused(ErrorReason::Settings));
     };
     match Engine::new(alloc, settings) {
-        Ok(engine) => Ok(Some(engine)),
-        Err(NewFault::NoMemory) => Err(NoMemory),
-        Err(NewFault::BadType) => Ok(None),
-        Err(NewFault::SameType) => Ok(None),
-        Err(NewFault::SameSsrc) => Ok(None),
-        Err(NewFault::RedMissing) => Ok(None),
-        Err(NewFault::BadInterval) => Ok(None),
-        Err(NewFault::Later) => Ok(None),
+        Ok(engine) => match codec {
+            CodecName::Vp8 => Ok(engine),
+            CodecName::H264 => Err(Unopened::Refused(ErrorReason::Later)),
+        },
+        Err(fault) => Err(hindered_by(fault)),
     }
 }
 
 /// Replays a capture.
 pub(crate) fn replay<S: Source, K: Sink>(alloc: Global, source: &mut S, sink: &mut K) -> Status
-    ensures ends { IfSome (S.left source.old) (λ capture.
-        Ends result (replayed capture) (K.taken sink.old) (K.taken sink.new) (S.left source.new)) }
+    ensures ends { EndsOver replayed result (S.left source.old) (K.taken sink.old) (S.left source.new) (K.taken sink.new) }
     ensures status { result ≢ Status.BadUsage }
     ensures read_fault { result ≡ Status.ReadFault →
         Rose (S.faults source.old) (S.faults source.new) }
@@ -198,18 +192,19 @@ pub(crate) fn replay<S: Source, K: Sink>(alloc: Global, source: &mut S, sink: &m
     ensures read_later { S.faults source.old ≤ S.faults source.new }
     ensures write_later { K.faults sink.old ≤ K.faults sink.new }
 {
+    lines_join();
     let Ok(mut lines) = Lines::new(alloc, MOST_EVENTS) else {
         return Status::NoMemory;
     };
     let line = match lines.head(source) {
         Ok(Some(line)) => line,
-        Ok(None) => return refuse(alloc, 1, sink),
+        Ok(None) => return refuse(alloc, 1, ErrorReason::Settings, sink),
         Err(HeadFault::ReadFault) => return Status::ReadFault,
         Err(HeadFault::NoMemory) => return Status::NoMemory,
     };
     match opened(alloc, line.as_slice()) {
-        Ok(Some(engine)) => play(alloc, engine, lines, source, sink),
-        Ok(None) => refuse(alloc, 1, sink),
-        Err(NoMemory) => Status::NoMemory,
+        Ok(engine) => play(alloc, engine, lines, source, sink),
+        Err(Unopened::Refused(reason)) => refuse(alloc, 1, reason, sink),
+        Err(Unopened::NoMemory) => Status::NoMemory,
     }
 }

@@ -1,21 +1,40 @@
 //! Whole runs in memory: captures and their transcripts, worked by hand.
 
+mod datagrams;
+mod faults;
+mod inspections;
+mod lines;
+mod usage;
+
 use crate::{Status, run};
 use std::alloc::Global;
 use std::test::Fail;
-use vrx_io::{MemSink, MemSource, SureSink, SureSource};
+use vrx_io::{MemSink, MemSource};
 
-/// The settings line of each capture.
+/// The settings line of most captures.
 const HEAD: &str = "vrx 1 codec=vp8 ssrc=0000000a pt=96 from=0000000b\n";
 
-/// The word replay.
-fn replay_word(alloc: Global) -> Result<Vec<String>, Fail> {
+/// These words.
+fn words_of(alloc: Global, texts: &[&str]) -> Result<Vec<String>, Fail> {
     let mut words = Vec::new(alloc);
-    words.push(String::from_str(alloc, "replay")?)?;
+    for text in texts {
+        words.push(String::from_str(alloc, *text)?)?;
+    }
     Ok(words)
 }
 
-/// A capture in memory, read in pieces of so many octets; these reads fail.
+/// How a capture is read, and how its text is taken.
+#[derive(Clone, Copy)]
+struct Pipes {
+    /// A read gives at most so many octets.
+    most: usize,
+    /// The sink has room for so many octets.
+    room: usize,
+    /// A write takes at most so many octets.
+    piece: usize,
+}
+
+/// A source of a capture, which stands in two parts; these reads fail, counted from 1.
 fn source_of(
     alloc: Global,
     head: &str,
@@ -29,36 +48,45 @@ fn source_of(
     Ok(MemSource::new(bytes, fails.to_vec(alloc)?, most))
 }
 
-/// How a replay of a capture ends, and what the sink took, which has room for so many octets. A read gives at most
-/// `most` of them, and a write takes at most `piece`.
+/// A sink; these writes fail, counted from 1.
+fn sink_of(alloc: Global, room: usize, piece: usize, fails: &[u64]) -> Result<MemSink, Fail> {
+    let piece = if piece == 0 { 1 } else { piece };
+    Ok(MemSink::new(alloc, room, fails.to_vec(alloc)?, piece)?)
+}
+
+/// How a word over a capture ends, which stands in two parts, and what the sink took.
 fn outcome_in(
     alloc: Global,
+    word: &str,
     head: &str,
     lines: &str,
-    most: usize,
-    room: usize,
-    piece: usize,
+    pipes: Pipes,
 ) -> Result<(Status, Vec<u8>), Fail> {
-    let mut source = source_of(alloc, head, lines, most, &[])?;
-    let piece = if piece == 0 { 1 } else { piece };
-    let mut sink = MemSink::new(alloc, room, Vec::new(alloc), piece)?;
-    let status = run(
-        alloc,
-        replay_word(alloc)?.as_slice(),
-        &mut source,
-        &mut sink,
-    );
+    let mut source = source_of(alloc, head, lines, pipes.most, &[])?;
+    let mut sink = sink_of(alloc, pipes.room, pipes.piece, &[])?;
+    let words = words_of(alloc, &[word])?;
+    let status = run(alloc, words.as_slice(), &mut source, &mut sink);
     Ok((status, sink.written().to_vec(alloc)?))
 }
 
-/// The same of a short capture.
+/// How the replay of a short capture ends.
 fn outcome(alloc: Global, head: &str, lines: &str, most: usize) -> Result<(Status, Vec<u8>), Fail> {
-    outcome_in(alloc, head, lines, most, 1_000, 7)
+    let pipes = Pipes {
+        most,
+        room: 1_000,
+        piece: 7,
+    };
+    outcome_in(alloc, "replay", head, lines, pipes)
 }
 
-/// The same of a long capture, in long pieces.
+/// How the replay of a long capture ends, read and written in long pieces.
 fn long_outcome(alloc: Global, lines: &str) -> Result<(Status, Vec<u8>), Fail> {
-    outcome_in(alloc, HEAD, lines, 100_000, 200_000, 100_000)
+    let pipes = Pipes {
+        most: 100_000,
+        room: 200_000,
+        piece: 100_000,
+    };
+    outcome_in(alloc, "replay", HEAD, lines, pipes)
 }
 
 /// Adds a datagram to a capture: a packet of type 96 with the timestamp 0 and the media SSRC 10.
@@ -604,141 +632,4 @@ fn a_datagram_has_at_most_9216_octets(rt: HostRuntime) -> Result<(), Fail> {
     assert_eq!(rt; status, Status::Done);
     assert!(rt; text.as_slice() == transcript.as_bytes());
     Ok(())
-}
-
-/// Captures with a bad line: the first line, the others, and the transcript.
-const BAD: [(&str, &str, &str); 12] = [
-    ("", "", "error line 1 form\n"),
-    ("\n", "", "error line 1 form\n"),
-    (
-        "vrx 2 codec=vp8 ssrc=0000000a pt=96 from=0000000b\n",
-        "",
-        "error line 1 form\n",
-    ),
-    // Equal SSRCs, and types that RTCP takes or that have eight bits.
-    (
-        "vrx 1 codec=vp8 ssrc=0000000a pt=96 from=0000000a\n",
-        "p 0\n",
-        "error line 1 form\n",
-    ),
-    (
-        "vrx 1 codec=vp8 ssrc=0000000a pt=72 from=0000000b\n",
-        "",
-        "error line 1 form\n",
-    ),
-    (
-        "vrx 1 codec=vp8 ssrc=0000000a pt=128 from=0000000b\n",
-        "",
-        "error line 1 form\n",
-    ),
-    (HEAD, "p 0\nt 1\np 2\n", "2 notready\nerror line 3 form\n"),
-    (HEAD, "d 0 8\n", "error line 2 form\n"),
-    (HEAD, "d 0\n", "error line 2 form\n"),
-    (HEAD, "p 01\n", "error line 2 form\n"),
-    (HEAD, "p 1234567890123\n", "error line 2 form\n"),
-    (HEAD, "p 0\r\n", "error line 2 form\n"),
-];
-
-#[test]
-fn bad_lines_are_told(rt: HostRuntime) -> Result<(), Fail> {
-    for (head, lines, transcript) in BAD {
-        let (status, text) = outcome(rt.alloc(), head, lines, 3)?;
-        assert_eq!(rt; status, Status::BadCapture, "{head}{lines}");
-        assert_eq!(rt; text.as_slice(), transcript.as_bytes(), "{head}{lines}");
-    }
-    Ok(())
-}
-
-#[test]
-fn other_words_read_and_write_nothing(rt: HostRuntime) -> Result<(), Fail> {
-    let mut source = source_of(rt.alloc(), HEAD, "p 0\n", 10, &[])?;
-    let mut sink = MemSink::new(rt.alloc(), 100, Vec::new(rt.alloc()), 7)?;
-    let none: [String; 0] = [];
-    assert_eq!(rt;
-        run(rt.alloc(), &none, &mut source, &mut sink),
-        Status::BadUsage
-    );
-    let mut two = replay_word(rt.alloc())?;
-    two.push(String::from_str(rt.alloc(), "live")?)?;
-    assert_eq!(rt;
-        run(rt.alloc(), two.as_slice(), &mut source, &mut sink),
-        Status::BadUsage
-    );
-    assert_eq!(rt; sink.written().len(), 0);
-    let words = replay_word(rt.alloc())?;
-    assert_eq!(rt;
-        run(rt.alloc(), words.as_slice(), &mut source, &mut sink),
-        Status::Done
-    );
-    assert_eq!(rt; sink.written(), b"2 notready\n".as_slice());
-    Ok(())
-}
-
-#[test]
-fn a_failed_read_ends_the_run(rt: HostRuntime) -> Result<(), Fail> {
-    for (fails, transcript) in [(1, ""), (8, "2 notready\n")] {
-        let mut source = source_of(rt.alloc(), HEAD, "p 0\np 1\n", 8, &[fails])?;
-        let mut sink = MemSink::new(rt.alloc(), 100, Vec::new(rt.alloc()), 100)?;
-        let words = replay_word(rt.alloc())?;
-        assert_eq!(rt;
-            run(rt.alloc(), words.as_slice(), &mut source, &mut sink),
-            Status::ReadFault
-        );
-        assert_eq!(rt; sink.written(), transcript.as_bytes());
-    }
-    Ok(())
-}
-
-#[test]
-fn a_bad_line_is_told_before_the_next_read(rt: HostRuntime) -> Result<(), Fail> {
-    let mut source = source_of(rt.alloc(), HEAD, "t 1\np 0\n", 1_000, &[2])?;
-    let mut sink = MemSink::new(rt.alloc(), 100, Vec::new(rt.alloc()), 100)?;
-    let words = replay_word(rt.alloc())?;
-    assert_eq!(rt;
-        run(rt.alloc(), words.as_slice(), &mut source, &mut sink),
-        Status::BadCapture
-    );
-    assert_eq!(rt; sink.written(), b"error line 2 form\n".as_slice());
-    Ok(())
-}
-
-#[test]
-fn a_failed_write_ends_the_run(rt: HostRuntime) -> Result<(), Fail> {
-    let lines = "d 0 80e00001000000000000000a1000aa\np 1\n";
-    let mut source = source_of(rt.alloc(), HEAD, lines, 100, &[])?;
-    let mut sink = MemSink::new(rt.alloc(), 100, [2].to_vec(rt.alloc())?, 100)?;
-    let words = replay_word(rt.alloc())?;
-    assert_eq!(rt;
-        run(rt.alloc(), words.as_slice(), &mut source, &mut sink),
-        Status::WriteFault
-    );
-    assert_eq!(rt; sink.written(), b"2 media 65537\n".as_slice());
-    Ok(())
-}
-
-#[test]
-fn sure_ends_never_fail(rt: HostRuntime) -> Result<(), Fail> {
-    let mut source = SureSource::new(HEAD.as_bytes().to_vec(rt.alloc())?);
-    let mut sink = SureSink::new();
-    let words = replay_word(rt.alloc())?;
-    assert_eq!(rt;
-        run(rt.alloc(), words.as_slice(), &mut source, &mut sink),
-        Status::Done
-    );
-    Ok(())
-}
-
-#[test]
-fn statuses_have_their_numbers(rt: HostRuntime) {
-    for (status, number, told) in [
-        (Status::Done, 0, false),
-        (Status::BadUsage, 1, true),
-        (Status::BadCapture, 2, true),
-        (Status::ReadFault, 3, true),
-        (Status::WriteFault, 4, true),
-        (Status::NoMemory, 5, true),
-    ] {
-        assert_eq!(rt; status.number(), number);
-        assert_eq!(rt; status.cause().is_some(), told);
-    }
 }

@@ -1,10 +1,13 @@
 -- Lemmas on the octets that a buffer holds from a place on.
-use Rattle.std.proofs.Common.{◌≡◌, ℕ, not, ◌==◌, ◌+◌, ◌-◌, ◌≤◌, List, ◌++◌, length, take, drop, refl, sym, ap, ◌∙◌, arith, Option}
-use Rattle.std.proofs.lemmas.List.{drop-take, drop-drop, length-take-le, length-drop, take-append-drop, take-take}
+use Rattle.std.proofs.Common.{◌≡◌, ◌⊎◌, ℕ, true, false, not, ◌==◌, ◌+◌, ◌-◌, ◌≤◌, List, [], ◌++◌, length, take, drop, refl, sym, ap, ◌∙◌, inl, inr, append_assoc, arith, Option}
+use Rattle.std.proofs.lemmas.Bool.{eqb-true}
+use Rattle.std.proofs.lemmas.List.{drop-take, drop-drop, drop_all, length-take-le, length-drop, take-append-drop, take-take, append-nil}
 use Rattle.std.proofs.lemmas.List.Folds.{prefix_len-append}
 use Rattle.vrx_text.specs.Line.{feed_place}
+use Rattle.vrx_io.specs.Source.{IsSpent}
 use Rattle.vrx_text.specs.Ahead.{ahead}
-use Rattle.vrx_text.proofs.AheadLemmas.{ahead-ahead}
+use Rattle.vrx_text.specs.Held.{Holding, ReadsOn, ReadsForLine}
+use Rattle.vrx_text.proofs.AheadLemmas.{ahead-ahead, ahead-none, IsSpent-ahead}
 
 passed_by : (buffer : List ℕ) (start n m : ℕ) → drop n (take (n + m) (drop start buffer)) ≡ take m (drop (start + n) buffer)
 passed_by buffer start n m = drop-take n m (drop start buffer) ∙ ap (λ (octets : List ℕ). take m octets) (drop-drop n start buffer)
@@ -35,6 +38,58 @@ feed_le_append octets more = grind (arith, prefix_len-append (λ octet. not (oct
 pub feed_grown : (before after : List ℕ) (start len n : ℕ) → take (start + len) after ≡ take (start + len) before → feed_place (take len (drop start before)) ≤ feed_place (take (len + n) (drop start after))
 feed_grown before after start len n front = rw (grown before after start len n front) (feed_le_append (take len (drop start before)) (take n (drop (start + len) after)))
 
--- what came behind those held came from what was left
-pub ahead_grown : (before after : List ℕ) (start len n : ℕ) (was left : Option (List ℕ)) → take (start + len) after ≡ take (start + len) before → was ≡ ahead (take n (drop (start + len) after)) left → ahead (take (len + n) (drop start after)) left ≡ ahead (take len (drop start before)) was
-ahead_grown before after start len n was left front next = rw (grown before after start len n front, next) (sym (ahead-ahead (take len (drop start before)) (take n (drop (start + len) after)) left))
+-- nothing stands behind the end
+pub drop_beyond : (octets : List ℕ) (len : ℕ) → length octets ≤ len → drop len octets ≡ drop (len + 1) octets
+drop_beyond octets len beyond = drop_all len octets beyond ∙ sym (drop_all (len + 1) octets (omega arith))
+
+-- a read that failed left what was held
+pub reads_none : (old new : Holding) (before after : Option (List ℕ)) → new ≡ old → after ≡ before → ReadsOn old new before after
+reads_none old new before after same left = record {
+  read = [];
+  source = sym left ∙ ahead-none after;
+  octets = rw (same, append-nil old.kept) refl;
+  end = λ ended. inl (rw same at ended);
+  stays = λ ended. (rw same ended, refl);
+}
+
+-- a read
+pub reads_some : (old new : Holding) (before after : Option (List ℕ)) (read : List ℕ) (n : ℕ) → before ≡ ahead read after → new.kept ≡ old.kept ++ read → old.ended ≡ false → new.ended ≡ (n == 0) → (n ≡ 0 → IsSpent after) → ReadsOn old new before after
+reads_some old new before after read n source octets going ended spent = record {
+  read = read;
+  source = source;
+  octets = octets;
+  end = λ was. inr (spent (eqb-true n 0 (sym ended ∙ was)));
+  stays = λ was. cc;
+}
+
+-- one read after another
+pub reads_twice : (old mid new : Holding) (before between after : Option (List ℕ)) → ReadsOn old mid before between → ReadsOn mid new between after → ReadsOn old new before after
+reads_twice old mid new before between after first second = record {
+  read = first.read ++ second.read;
+  source = first.source ∙ ap (λ (left : Option (List ℕ)). ahead first.read left) second.source ∙ ahead-ahead first.read second.read after;
+  octets = second.octets ∙ ap (λ (octets : List ℕ). octets ++ second.read) first.octets ∙ append_assoc old.kept first.read second.read;
+  end = λ ended. spent_by (second.end ended);
+  stays = λ ended. let mid_stays = first.stays ended in let new_stays = second.stays mid_stays.0 in (new_stays.0, rw (mid_stays.1, new_stays.1) refl);
+}
+  where
+    spent_by : (mid.ended ≡ true) ⊎ IsSpent after → (old.ended ≡ true) ⊎ IsSpent after
+    spent_by (inl ended) = spent_before (first.end ended)
+      where
+        spent_before : (old.ended ≡ true) ⊎ IsSpent between → (old.ended ≡ true) ⊎ IsSpent after
+        spent_before (inl was) = inl was
+        spent_before (inr spent) = inr (IsSpent-ahead second.read after (rw second.source at spent))
+    spent_by (inr spent) = inr spent
+
+-- a read where no line feed was held
+pub reads_last : (old mid new : Holding) (before between after : Option (List ℕ)) → ReadsOn old mid before between → ReadsOn mid new between after → feed_place mid.kept ≡ length mid.kept → ReadsForLine old.kept before after
+reads_last old mid new before between after first second no_feed = record {
+  early = first.read;
+  last = second.read;
+  source = first.source ∙ ap (λ (left : Option (List ℕ)). ahead first.read left) second.source ∙ ahead-ahead first.read second.read after;
+  no_feed = rw first.octets at no_feed;
+}
+
+-- where the source isn't at its end behind some reads, it wasn't before
+pub going_on : {A : Type 0} {B : Type 0} (was now : A) (old mid : Holding) → ((now ≡ was) × (mid ≡ old)) ⊎ (B × (old.ended ≡ false)) → mid.ended ≡ false → old.ended ≡ false
+going_on was now old mid (inl same) going = rw same.1 at going
+going_on was now old mid (inr read) going = read.1

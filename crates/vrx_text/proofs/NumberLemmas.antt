@@ -6,7 +6,7 @@ use Rattle.std.specs.Fmt.{decimal}
 use Rattle.std.proofs.lemmas.Bool.{cases_eq}
 use Rattle.std.proofs.lemmas.Fmt.{digits_decimal, digits_value-decimal, decimal-digits_value, decimal_nonempty, first_decimal, decimal_digit}
 use Rattle.std.proofs.lemmas.Str.Parse.{IsNumeralModel, numerals_by_fold}
-use Rattle.vrx_text.specs.Line.{number_from, number_in}
+use Rattle.vrx_text.specs.Words.{number_from, number_in}
 
 -- the number that digits make, behind those that make `n`
 abbrev read_on : ℕ → List ℕ → ℕ

@@ -1,164 +1,237 @@
--- Lemmas on what a reader of a capture is yet to give.
-use Rattle.std.proofs.Common.{◌≡◌, ℕ, ◌+◌, ◌<◌, ◌||◌, true, nat_lt, List, [], ◌∷◌, length, take, drop, refl, sym, ap, ◌∙◌, Option, Some, None, IfSome, Result, Ok, Err}
-use Rattle.std.proofs.lemmas.Bool.{lt-ltb, or_right}
-use Rattle.std.specs.Option.{option_map}
-use Rattle.vrx_io.specs.Source.{IsSpent}
-use Rattle.vrx_core.specs.declared.event.Event.{Event}
-use Rattle.vrx_text.specs.Line.{lines_of}
-use Rattle.vrx_text.specs.Reading.{Reading, nothing, bad_at, with_event, with_line, event_count, line_at, reading, longest_line, most_lines}
-use Rattle.vrx_text.specs.Ahead.{ahead, lines_ahead, line_first, IsTooLong, HasNoHead}
+-- Lemmas on the steps of a reader.
+use Rattle.std.proofs.Common.{◌≡◌, ◌⊎◌, ℕ, ◌+◌, ◌<◌, ◌≤◌, ◌==◌, Bool, true, false, List, [], ◌∷◌, ◌++◌, length, take, drop, Option, Some, None, Result, Ok, Err, refl, sym, ap, ◌∙◌, inl, inr, append_assoc, arith}
+use Rattle.std.proofs.lemmas.Bool.{cases_lt}
+use Rattle.std.proofs.lemmas.List.{append-nil, take-append-drop, drop_all, length-take-le}
+use Rattle.vrx_text.specs.Line.{feed_place, lines_of, longest_line, most_lines}
+use Rattle.vrx_text.specs.Reading.{sound, bad_at, with_line, reading}
+use Rattle.vrx_text.specs.Held.{ReadsOn, ReadsForLine}
 use Rattle.vrx_text.specs.Found.{IsFirstLine}
-use Rattle.vrx_text.specs.Reader.{Reader, reading_of, due, IsNext, IsHead, KeepsCounts}
-use Rattle.vrx_text.specs.Step.{passed, IsTaken, IsStep}
+use Rattle.vrx_text.specs.Reader.{Reader, says, AreWhole, MayFollow, Passes, IsNext, AllSayBad, ReadsLazily, HasNoFeed, HasNoHead}
+use Rattle.vrx_text.specs.Step.{GoesOn, IsTaken, IsStep, KeepsCounts, held_by, long_reason, passed}
+use Rattle.vrx_core.specs.declared.event.Event.{Event}
 use Rattle.vrx_text.specs.declared.line.LineKind.{LineKind}
 use Rattle.vrx_text.specs.declared.line.LineKind.TheVariants.{Blank, Happens, Wrong}
+use Rattle.vrx_text.specs.declared.line.LineReason.{LineReason}
 use Rattle.vrx_text.specs.declared.lines.Line.{Line}
 use Rattle.vrx_text.specs.declared.lines.Line.TheVariants as lines
 use Rattle.vrx_text.specs.declared.lines.LineFault.{LineFault}
 use Rattle.vrx_text.specs.declared.lines.LineFault.TheVariants as faults
+use Rattle.vrx_text.proofs.PlaceLemmas.{place_within}
+use Rattle.vrx_text.proofs.LinesLemmas.{first_line, whole_line, first_length, feed_le_first}
+use Rattle.vrx_text.proofs.LineLemmas.{long_line}
+use Rattle.vrx_text.proofs.AheadLemmas.{ahead-none}
+use Rattle.vrx_text.proofs.JoinLemmas.{lines_join}
+use Rattle.vrx_text.proofs.SaysLemmas.{kind_of, says-first, says-none, next-on, passes-on, reads-lazily}
 
-reading_by : ℕ → ℕ → ℕ → Option ℕ → Option (List ℕ) → Option Reading
-reading_by max given events bad octets = option_map (λ (text : List ℕ). reading_of (record { kept = []; given = given; events = events; max = max; bad = bad }) (lines_of text)) octets
+-- ---- a reader that did nothing
 
-reading_by-octets : (reader : Reader) (octets : Option (List ℕ)) → option_map (reading_of reader) (option_map lines_of octets) ≡ reading_by reader.max reader.given reader.events reader.bad octets
-unfolding reading_by
-reading_by-octets reader None = refl
-reading_by-octets reader (Some text) = refl
+pub none_given : (n : ℕ) → n ≡ n + length (lines_of [])
+unfolding lines_of
+none_given n = omega arith
 
-due-by : (reader : Reader) (left : Option (List ℕ)) → due reader left ≡ reading_by reader.max reader.given reader.events reader.bad (ahead reader.kept left)
-unfolding due
-due-by reader left = reading_by-octets reader (ahead reader.kept left)
+abbrev pub passes_none : (reader : Reader) (left : Option (List ℕ)) → Passes reader reader left left
+passes_none reader left = record {
+  read = [];
+  gone = [];
+  source = ahead-none left;
+  end = λ ended. inl ended;
+  stays = λ ended. (ended, refl);
+  octets = append-nil reader.kept;
+  whole = inl (inl refl);
+  given = none_given reader.given;
+  max = refl;
+}
 
--- the same is due, where the same octets lie ahead and the counts stay
-pub due_same : (old new : Reader) (before after : Option (List ℕ)) → ahead new.kept after ≡ ahead old.kept before → KeepsCounts old new → due new after ≡ due old before
-due_same old new before after same counts =
-    let given : new.given ≡ old.given = ap (λ (r : Reader). r.given) counts in
-    let events : new.events ≡ old.events = ap (λ (r : Reader). r.events) counts in
-    let max : new.max ≡ old.max = ap (λ (r : Reader). r.max) counts in
-    let bad : new.bad ≡ old.bad = ap (λ (r : Reader). r.bad) counts in
-    due-by new after ∙ rw (given, events, max, bad, same) (sym (due-by old before))
+pub goes_none : (reader : Reader) (left : Option (List ℕ)) → reader.bad ≡ None → GoesOn reader reader left left
+goes_none reader left good = record { passes = passes_none reader left; nothing = says-none reader good; events = refl; bad = good }
 
--- what the next line says to a reader
-abbrev pub kind_of : Reader → List ℕ → LineKind
-kind_of reader line = line_at reader.max (reader.given + 1) reader.events line
+-- it met a bad line before
+pub next_bad : (reader : Reader) (left : Option (List ℕ)) (k : ℕ) (reason : LineReason) → reader.bad ≡ Some (k, reason) → (passes : Passes reader reader left left) × IsNext reader reader passes.read passes.gone (Err (faults.Bad k reason))
+next_bad reader left k reason bad = (passes_none reader left, (λ more may. rw bad refl, refl, bad))
 
--- what a reader makes of a line and others, by what it makes of these behind the line
-reading_of-first : (reader : Reader) (next : ℕ) (line : List ℕ) (others : List (List ℕ)) → reader.bad ≡ None → reading_of reader (line ∷ others) ≡ with_line (reader.given + 1) (kind_of reader line) (reading_of (passed reader next (event_count (kind_of reader line))) others)
-unfolding reading
-reading_of-first reader next line others sound = rw sound refl
+-- so many lines were given that the next has no number
+pub head_full : (reader : Reader) (left : Option (List ℕ)) → most_lines ≤ reader.given → (passes : Passes reader reader left left) × ((passes.gone ≡ []) × (reader.given < most_lines → (more : List ℕ) → MayFollow reader more → HasNoHead (lines_of (reader.kept ++ passes.read ++ more))))
+head_full reader left full = (passes_none reader left, (refl, λ fewer. absurd (omega arith)))
 
-made_of-first : (reader : Reader) (next : ℕ) (line : List ℕ) (others : Option (List (List ℕ))) → reader.bad ≡ None → option_map (reading_of reader) (line_first line others) ≡ option_map (with_line (reader.given + 1) (kind_of reader line)) (option_map (reading_of (passed reader next (event_count (kind_of reader line)))) others)
-made_of-first reader next line None sound = refl
-made_of-first reader next line (Some others) sound = ap Some (reading_of-first reader next line others sound)
+-- ---- the front of what is kept
 
--- what is due is what the next line says, and then what is due behind it
-due-first : (reader : Reader) (left : Option (List ℕ)) (len next : ℕ) → reader.bad ≡ None → IsFirstLine reader.kept left len next → due reader left ≡ option_map (with_line (reader.given + 1) (kind_of reader (take len reader.kept))) (due (passed reader next (event_count (kind_of reader (take len reader.kept)))) left)
-unfolding due
-due-first reader left len next sound first = rw first.lines (made_of-first reader next (take len reader.kept) (lines_ahead (drop next reader.kept) left) sound)
+pub len_within : (kept : List ℕ) (ended : Bool) (len : ℕ) → IsFirstLine kept ended len → len ≤ length kept
+len_within kept ended len first = omega (arith, first.place, place_within (λ octet. octet == 10) kept)
 
-option_map-blank : (k : ℕ) (readings : Option Reading) → option_map (with_line k Blank) readings ≡ readings
-option_map-blank k None = refl
-option_map-blank k (Some reading) = refl
+-- The first line kept.
+module _ (kept : List ℕ) (ended : Bool) (len : ℕ) (first : IsFirstLine kept ended len) where
+  some_by : (len < length kept) ⊎ ((0 < len) × (ended ≡ true)) → 0 < length kept
+  some_by (inl within) = omega arith
+  some_by (inr last) = omega (arith, last.0, len_within kept ended len first)
 
--- a line that says nothing was passed over
-step_blank : (old : Reader) (left : Option (List ℕ)) (len next : ℕ) → old.bad ≡ None → IsFirstLine old.kept left len next → kind_of old (take len old.kept) ≡ Blank → due (passed old next 0) left ≡ due old left
-step_blank old left len next sound first kind =
-    let whole : due old left ≡ option_map (with_line (old.given + 1) Blank) (due (passed old next 0) left) = rw kind at (due-first old left len next sound first) in
-    sym (whole ∙ option_map-blank (old.given + 1) (due (passed old next 0) left))
+  pub gone_line : lines_of (take (len + 1) kept) ≡ take len kept ∷ []
+  gone_line = rw first.place (first_line kept (some_by first.whole))
 
--- an event was given
-step_event : (old : Reader) (left : Option (List ℕ)) (len next : ℕ) (event : Event) → old.bad ≡ None → IsFirstLine old.kept left len next → kind_of old (take len old.kept) ≡ Happens event → due old left ≡ option_map (with_event (old.given + 1) event) (due (passed old next 1) left)
-step_event old left len next event sound first kind = rw kind at (due-first old left len next sound first)
+  whole_by : (len < length kept) ⊎ (length kept ≤ len) → (len < length kept) ⊎ ((0 < len) × (ended ≡ true)) → AreWhole (take (len + 1) kept) ⊎ ((ended ≡ true) × (drop (len + 1) kept ≡ []))
+  whole_by (inl within) known = inl (rw first.place (whole_line kept (omega (arith, first.place))))
+  whole_by (inr beyond) (inl within) = absurd (omega arith)
+  whole_by (inr beyond) (inr last) = inr (last.1, drop_all (len + 1) kept (omega arith))
 
--- the reader that says that the next line is bad
-abbrev pub refused : Reader → Reader
-refused old = record old { bad = Some (old.given + 1) }
+  pub gone_whole : AreWhole (take (len + 1) kept) ⊎ ((ended ≡ true) × (drop (len + 1) kept ≡ []))
+  gone_whole = whole_by (cases_lt len (length kept)) first.whole
 
--- what a reader makes of the lines is that the first is bad
-abbrev IsRefused : Reader → List (List ℕ) → Type 0
-IsRefused old ahead = reading_of old ahead ≡ bad_at (old.given + 1)
+  pub parted : take (len + 1) kept ++ drop (len + 1) kept ≡ kept
+  parted = take-append-drop (len + 1) kept
 
-refused_on : (old : Reader) (ahead : Option (List (List ℕ))) → IfSome ahead (IsRefused old) → IfSome (option_map (reading_of old) ahead) (λ reading. reading ≡ bad_at (old.given + 1)) × (option_map (reading_of (refused old)) ahead ≡ option_map (reading_of old) ahead)
-refused_on old None bad = (tt, refl)
-refused_on old (Some ahead) bad = (bad, ap Some (sym bad))
+  first_by : (more : List ℕ) → (ended ≡ true → more ≡ []) → AreWhole (take (len + 1) kept) ⊎ ((ended ≡ true) × (drop (len + 1) kept ≡ [])) → (others : List (List ℕ)) × (lines_of (kept ++ more) ≡ take len kept ∷ others)
+  first_by more may (inl whole) =
+      let octets : kept ++ more ≡ take (len + 1) kept ++ (drop (len + 1) kept ++ more) = ap (λ (xs : List ℕ). xs ++ more) (sym parted) ∙ append_assoc (take (len + 1) kept) (drop (len + 1) kept) more in
+      let lines : lines_of (kept ++ more) ≡ lines_of (take (len + 1) kept) ++ lines_of (drop (len + 1) kept ++ more) = ap lines_of octets ∙ lines_join (take (len + 1) kept) (drop (len + 1) kept ++ more) whole in
+      (lines_of (drop (len + 1) kept ++ more), lines ∙ ap (λ (xs : List (List ℕ)). xs ++ lines_of (drop (len + 1) kept ++ more)) gone_line)
+  first_by more may (inr last) =
+      let whole : take (len + 1) kept ≡ kept = sym (append-nil (take (len + 1) kept)) ∙ ap (λ (xs : List ℕ). take (len + 1) kept ++ xs) (sym last.1) ∙ parted in
+      let octets : kept ++ more ≡ take (len + 1) kept = ap (λ (xs : List ℕ). kept ++ xs) (may last.0) ∙ append-nil kept ∙ sym whole in
+      ([], ap lines_of octets ∙ gone_line)
 
-step_refused : (old : Reader) (left : Option (List ℕ)) → IfSome (lines_ahead old.kept left) (IsRefused old) → IsNext (due old left) (refused old) left (Err (faults.Bad (old.given + 1)))
-unfolding due
-step_refused old left bad = refused_on old (lines_ahead old.kept left) bad
+  -- it is the first, whatever follows
+  pub first_of : (more : List ℕ) → (ended ≡ true → more ≡ []) → (others : List (List ℕ)) × (lines_of (kept ++ more) ≡ take len kept ∷ others)
+  first_of more may = first_by more may gone_whole
 
-wrong_on : (old : Reader) (next : ℕ) (line : List ℕ) (others : Option (List (List ℕ))) → old.bad ≡ None → kind_of old line ≡ Wrong → IfSome (line_first line others) (IsRefused old)
-wrong_on old next line None sound kind = tt
-wrong_on old next line (Some others) sound kind = reading_of-first old next line others sound ∙ rw kind refl
+-- ---- lines that are too long
 
--- a wrong line was refused
-step_wrong : (old : Reader) (left : Option (List ℕ)) (len next : ℕ) → old.bad ≡ None → IsFirstLine old.kept left len next → kind_of old (take len old.kept) ≡ Wrong → IsNext (due old left) (refused old) left (Err (faults.Bad (old.given + 1)))
-step_wrong old left len next sound first kind = step_refused old left (rw first.lines (wrong_on old next (take len old.kept) (lines_ahead (drop next old.kept) left) sound kind))
+long_says : (reader : Reader) (octets : List ℕ) (lines : List (List ℕ)) → reader.bad ≡ None → lines_of octets ≡ lines → longest_line < first_length lines → says reader octets ≡ bad_at (reader.given + 1, long_reason (reader.given + 1))
+long_says reader octets [] good is long = absurd (omega arith)
+long_says reader octets (line ∷ others) good is long =
+    let kind : kind_of reader line ≡ Wrong (long_reason (reader.given + 1)) = long_line reader.max (reader.given + 1) reader.events line long in
+    says-first reader octets line others good is ∙ rw kind refl
 
-line_at-long : (max k events : ℕ) (line : List ℕ) → longest_line < length line → line_at max k events line ≡ Wrong
-unfolding line_at
-line_at-long max k events line long = let beyond : (nat_lt most_lines k || nat_lt longest_line (length line)) ≡ true = or_right _ _ (lt-ltb longest_line (length line) long) in rw beyond refl
+HasNoHead-first_length : (lines : List (List ℕ)) → longest_line < first_length lines → HasNoHead lines
+HasNoHead-first_length [] long = tt
+HasNoHead-first_length (line ∷ lines) long = long
 
-long_on : (old : Reader) (ahead : Option (List (List ℕ))) → old.bad ≡ None → IfSome ahead IsTooLong → IfSome ahead (IsRefused old)
-long_on old None sound long = tt
-long_on old (Some []) sound long = absurd long
-long_on old (Some (line ∷ others)) sound long = reading_of-first old 0 line others sound ∙ rw (line_at-long old.max (old.given + 1) old.events line long) refl
+no_head : (kept more : List ℕ) → kept ≡ [] → more ≡ [] → HasNoHead (lines_of (kept ++ more))
+unfolding lines_of
+no_head kept more none nothing = rw (none, nothing) tt
 
--- a line that is too long was refused
-pub step_too_long : (old : Reader) (left : Option (List ℕ)) → old.bad ≡ None → IfSome (lines_ahead old.kept left) IsTooLong → IsNext (due old left) (refused old) left (Err (faults.Bad (old.given + 1)))
-step_too_long old left sound long = step_refused old left (long_on old (lines_ahead old.kept left) sound long)
+-- Behind a find, which left a reader `mid`.
+module _ (old mid : Reader) (before after : Option (List ℕ)) (reads : ReadsOn (held_by old) (held_by mid) before after) (counts : KeepsCounts old mid) where
+  pub given_same : mid.given ≡ old.given
+  given_same = ap (λ (r : Reader). r.given) counts
 
-end_on : (reader : Reader) (kept : List ℕ) (left : Option (List ℕ)) → reader.bad ≡ None → kept ≡ [] → IsSpent left → IfSome (option_map (reading_of reader) (lines_ahead kept left)) (λ reading. reading ≡ nothing)
-unfolding ahead lines_of reading
-end_on reader kept None sound none spent = tt
-end_on reader kept (Some rest) sound none spent = rw (none, spent, sound) refl
+  events_same : mid.events ≡ old.events
+  events_same = ap (λ (r : Reader). r.events) counts
 
--- the end was met
-pub step_end : (old : Reader) (left : Option (List ℕ)) → old.bad ≡ None → old.kept ≡ [] → IsSpent left → IsNext (due old left) old left (Ok lines.End)
-unfolding due
-step_end old left sound none spent = (end_on old old.kept left sound none spent, none, spent)
+  pub max_same : mid.max ≡ old.max
+  max_same = ap (λ (r : Reader). r.max) counts
 
--- a line was taken
-pub step_taken : (old new : Reader) (left : Option (List ℕ)) (len next : ℕ) (result : Result (Option Line) LineFault) → old.bad ≡ None → IsFirstLine old.kept left len next → IsTaken old (kind_of old (take len old.kept)) next new result → IsStep (due old left) new left result
-step_taken old new left len next (Ok None) sound first taken = rw taken.1 (step_blank old left len next sound first taken.0)
-step_taken old new left len next (Ok (Some (lines.Event k event))) sound first taken = rw (taken.1, taken.2) (step_event old left len next event sound first taken.0)
-step_taken old new left len next (Ok (Some lines.End)) sound first taken = absurd taken
-step_taken old new left len next (Err (faults.Bad k)) sound first taken = rw (taken.1, taken.2) (step_wrong old left len next sound first taken.0)
-step_taken old new left len next (Err faults.ReadFault) sound first taken = absurd taken
-step_taken old new left len next (Err faults.NoMemory) sound first taken = rw taken refl
+  bad_same : mid.bad ≡ old.bad
+  bad_same = ap (λ (r : Reader). r.bad) counts
 
-bad_on : (reader : Reader) (k : ℕ) (ahead : Option (List (List ℕ))) → reader.bad ≡ Some k → IfSome (option_map (reading_of reader) ahead) (λ reading. reading ≡ bad_at k)
-bad_on reader k None bad = tt
-bad_on reader k (Some ahead) bad = rw bad refl
+  -- the same lines say the same to both
+  says_same : (octets : List ℕ) → says old octets ≡ says mid octets
+  says_same octets = rw (given_same, events_same, max_same, bad_same) refl
 
--- a reader that met a bad line says so again
-pub step_bad : (old : Reader) (left : Option (List ℕ)) (k : ℕ) → old.bad ≡ Some k → IsNext (due old left) old left (Err (faults.Bad k))
-unfolding due
-step_bad old left k bad = (bad_on old k (lines_ahead old.kept left) bad, refl)
+  -- what it did, where it passed over octets then
+  abbrev pub made : (new : Reader) (gone : List ℕ) → mid.kept ≡ gone ++ new.kept → new.ended ≡ mid.ended → new.given ≡ mid.given + length (lines_of gone) → new.max ≡ mid.max → AreWhole gone ⊎ ((new.ended ≡ true) × (new.kept ≡ [])) → Passes old new before after
+  made new gone octets ended given max whole = record {
+    read = reads.read;
+    gone = gone;
+    source = reads.source;
+    end = λ was. reads.end (sym ended ∙ was);
+    stays = λ was. (ended ∙ (reads.stays was).0, (reads.stays was).1);
+    octets = sym reads.octets ∙ octets;
+    whole = whole;
+    given = given ∙ ap (λ (n : ℕ). n + length (lines_of gone)) given_same;
+    max = max ∙ max_same;
+  }
 
--- The same behind a find: it left a reader `mid`, under which the same is due.
-module _ (old mid : Reader) (before after : Option (List ℕ)) (same : ahead mid.kept after ≡ ahead old.kept before) (counts : KeepsCounts old mid) (sound : old.bad ≡ None) where
-  mid_sound : mid.bad ≡ None
-  mid_sound = ap (λ (r : Reader). r.bad) counts ∙ sound
+  -- where it passed over none
+  abbrev pub made_none : (new : Reader) → new.kept ≡ mid.kept → new.ended ≡ mid.ended → new.given ≡ mid.given → new.max ≡ mid.max → Passes old new before after
+  made_none new kept ended given max = made new [] (sym kept) ended (given ∙ none_given mid.given) max (inl (inl refl))
 
-  was : due old before ≡ due mid after
-  was = sym (due_same old mid before after same counts)
+  -- where it passed over its first line
+  abbrev pub made_line : (new : Reader) (len : ℕ) → IsFirstLine mid.kept mid.ended len → new.kept ≡ drop (len + 1) mid.kept → new.ended ≡ mid.ended → new.given ≡ mid.given + 1 → new.max ≡ mid.max → Passes old new before after
+  made_line new len first kept ended given max =
+      made new (take (len + 1) mid.kept) (sym (parted mid.kept mid.ended len first) ∙ ap (λ (xs : List ℕ). take (len + 1) mid.kept ++ xs) (sym kept)) ended (given ∙ ap (λ (xs : List (List ℕ)). mid.given + length xs) (sym (gone_line mid.kept mid.ended len first))) max (rw (ended, kept) (gone_whole mid.kept mid.ended len first))
 
-  pub found_taken : (new : Reader) (len next : ℕ) (result : Result (Option Line) LineFault) → IsFirstLine mid.kept after len next → IsTaken mid (kind_of mid (take len mid.kept)) next new result → IsStep (due old before) new after result
-  found_taken new len next result first taken = rw was (step_taken mid new after len next result mid_sound first taken)
+  -- all octets that were kept and read
+  kept_read : (more : List ℕ) → (old.kept ++ reads.read) ++ more ≡ mid.kept ++ more
+  kept_read more = ap (λ (xs : List ℕ). xs ++ more) (sym reads.octets)
 
-  pub found_too_long : (k : ℕ) (new : Reader) → k ≡ mid.given + 1 → new ≡ refused mid → IfSome (lines_ahead mid.kept after) IsTooLong → IsNext (due old before) new after (Err (faults.Bad k))
-  found_too_long k new number bad long = rw (number, bad, was) (step_too_long mid after mid_sound long)
+  -- ---- head lines
 
-  pub found_end : mid.kept ≡ [] → IsSpent after → IsNext (due old before) mid after (Ok lines.End)
-  found_end none spent = rw was (step_end mid after mid_sound none spent)
+  pub head_failed : HasNoFeed mid.kept → mid.ended ≡ false → length mid.kept ≤ longest_line → (passes : Passes old mid before after) × ((passes.gone ≡ []) × HasNoFeed mid.kept × (mid.ended ≡ false) × (length mid.kept ≤ longest_line))
+  head_failed no_feed going short = (made_none mid refl refl refl refl, (refl, no_feed, going, short))
 
-no_head : (kept : List ℕ) (left : Option (List ℕ)) → kept ≡ [] → IsSpent left → IfSome (lines_ahead kept left) HasNoHead
-unfolding ahead lines_of
-no_head kept None none spent = tt
-no_head kept (Some rest) none spent = rw (none, spent) tt
+  pub head_no_memory : (new : Reader) → new ≡ mid → (passes : Passes old new before after) × (passes.gone ≡ [])
+  head_no_memory new same = rw same (made_none mid refl refl refl refl, refl)
 
--- the end was met in place of a head line
-pub head_end : (old new : Reader) (before after : Option (List ℕ)) → ahead new.kept after ≡ ahead old.kept before → KeepsCounts old new → new.kept ≡ [] → IsSpent after → IsHead old before new after None
-head_end old new before after same counts none spent =
-    let lines : lines_ahead new.kept after ≡ lines_ahead old.kept before = ap (λ (octets : Option (List ℕ)). option_map lines_of octets) same in
-    (λ _. rw (sym lines) (no_head new.kept after none spent), lines, counts)
+  pub head_end : mid.kept ≡ [] → mid.ended ≡ true → (passes : Passes old mid before after) × ((passes.gone ≡ []) × (old.given < most_lines → (more : List ℕ) → MayFollow mid more → HasNoHead (lines_of (old.kept ++ passes.read ++ more))))
+  head_end none ended = (made_none mid refl refl refl refl, (refl, λ fewer more may. rw (kept_read more) (no_head mid.kept more none (may ended))))
+
+  pub head_too_long : longest_line < feed_place mid.kept → (passes : Passes old mid before after) × ((passes.gone ≡ []) × (old.given < most_lines → (more : List ℕ) → MayFollow mid more → HasNoHead (lines_of (old.kept ++ passes.read ++ more))))
+  head_too_long long = (made_none mid refl refl refl refl, (refl, λ fewer more may. rw (kept_read more) (HasNoHead-first_length (lines_of (mid.kept ++ more)) (omega (arith, feed_le_first mid.kept more)))))
+
+  pub head_given : (new : Reader) (len : ℕ) (line : List ℕ) → IsFirstLine mid.kept mid.ended len → new ≡ passed mid len 0 → line ≡ take len mid.kept → (passes : Passes old new before after) × ((lines_of passes.gone ≡ line ∷ []) × (length line ≤ longest_line))
+  head_given new len line first is told = rw (is, told) (made_line (passed mid len 0) len first refl refl refl refl, (gone_line mid.kept mid.ended len first, omega (arith, first.short, length-take-le len mid.kept (len_within mid.kept mid.ended len first))))
+
+  -- ---- events
+
+  module _ (good : old.bad ≡ None) where
+    mid_good : mid.bad ≡ None
+    mid_good = bad_same ∙ good
+
+    pub found_failed : HasNoFeed mid.kept → mid.ended ≡ false → length mid.kept ≤ longest_line → (passes : Passes old mid before after) × IsNext old mid passes.read passes.gone (Err faults.ReadFault)
+    found_failed no_feed going short = (made_none mid refl refl refl refl, (says-none old good, no_feed, going, events_same, mid_good, short))
+
+    pub found_end : mid.kept ≡ [] → mid.ended ≡ true → (passes : Passes old mid before after) × IsNext old mid passes.read passes.gone (Ok lines.End)
+    found_end none ended = (made_none mid refl refl refl refl, (says-none old good, none, ended, events_same, mid_good))
+
+    pub found_too_long : (new : Reader) (fault : LineFault) → new ≡ record mid { bad = Some (mid.given + 1, long_reason (mid.given + 1)) } → fault ≡ faults.Bad (mid.given + 1) (long_reason (mid.given + 1)) → longest_line < feed_place mid.kept → (passes : Passes old new before after) × IsNext old new passes.read passes.gone (Err fault)
+    found_too_long new fault is told long = rw (told, is) (made_none (record mid { bad = Some (mid.given + 1, long_reason (mid.given + 1)) }) refl refl refl refl, (all, events_same, refl))
+      where
+        all : AllSayBad old (record mid { bad = Some (mid.given + 1, long_reason (mid.given + 1)) }) (old.kept ++ reads.read) (mid.given + 1, long_reason (mid.given + 1))
+        all more may = rw (kept_read more) (says_same (mid.kept ++ more) ∙ long_says mid (mid.kept ++ more) (lines_of (mid.kept ++ more)) mid_good refl (omega (arith, feed_le_first mid.kept more)))
+
+    -- what the first line says
+    says_gone : (len : ℕ) (kind : LineKind) → IsFirstLine mid.kept mid.ended len → kind_of mid (take len mid.kept) ≡ kind → says old (take (len + 1) mid.kept) ≡ with_line (mid.given + 1) kind (sound [])
+    unfolding reading
+    says_gone len kind first is = says_same (take (len + 1) mid.kept) ∙ says-first mid (take (len + 1) mid.kept) (take len mid.kept) [] mid_good (gone_line mid.kept mid.ended len first) ∙ rw is refl
+
+    wrong_all : (new : Reader) (len : ℕ) (reason : LineReason) → IsFirstLine mid.kept mid.ended len → kind_of mid (take len mid.kept) ≡ Wrong reason → new.ended ≡ mid.ended → AllSayBad old new (old.kept ++ reads.read) (mid.given + 1, reason)
+    wrong_all new len reason first is ended more may =
+        let line = first_of mid.kept mid.ended len first more (λ was. may (ended ∙ was)) in
+        rw (kept_read more) (says_same (mid.kept ++ more) ∙ says-first mid (mid.kept ++ more) (take len mid.kept) line.0 mid_good line.1 ∙ rw is refl)
+
+    event_given : (len : ℕ) (event : Event) → IsFirstLine mid.kept mid.ended len → kind_of mid (take len mid.kept) ≡ Happens event → mid.events + 1 ≤ mid.max → (passes : Passes old (passed mid len 1) before after) × IsNext old (passed mid len 1) passes.read passes.gone (Ok (lines.Event (mid.given + 1) event))
+    event_given len event first is fewer = (made_line (passed mid len 1) len first refl refl refl refl, (says_gone len (Happens event) first is, ap (λ (n : ℕ). n + 1) events_same, fewer, mid_good))
+
+    bad_given : (len : ℕ) (reason : LineReason) → IsFirstLine mid.kept mid.ended len → kind_of mid (take len mid.kept) ≡ Wrong reason → (passes : Passes old (record mid { bad = Some (mid.given + 1, reason) }) before after) × IsNext old (record mid { bad = Some (mid.given + 1, reason) }) passes.read passes.gone (Err (faults.Bad (mid.given + 1) reason))
+    bad_given len reason first is = (made_none (record mid { bad = Some (mid.given + 1, reason) }) refl refl refl refl, (wrong_all (record mid { bad = Some (mid.given + 1, reason) }) len reason first is refl, events_same, refl))
+
+    pub found_taken : (new : Reader) (len : ℕ) (result : Result (Option Line) LineFault) → IsFirstLine mid.kept mid.ended len → IsTaken mid (kind_of mid (take len mid.kept)) len new result → IsStep old new before after result
+    found_taken new len (Ok None) first taken = rw taken.1 (record {
+      passes = made_line (passed mid len 0) len first refl refl refl refl;
+      nothing = says_gone len Blank first taken.0;
+      events = omega (arith, events_same);
+      bad = mid_good;
+    })
+    found_taken new len (Ok (Some (lines.Event k event))) first taken = rw (taken.1, taken.2) (event_given len event first taken.0 (rw taken.2 at taken.3))
+    found_taken new len (Ok (Some lines.End)) first taken = absurd taken
+    found_taken new len (Err (faults.Bad k reason)) first taken = rw (taken.1, rw taken.1 at taken.2) (bad_given len reason first taken.0)
+    found_taken new len (Err faults.ReadFault) first taken = absurd taken
+    found_taken new len (Err faults.NoMemory) first taken = rw taken (made_none mid refl refl refl refl, (says-none old good, events_same, mid_good))
+
+-- ---- several steps
+
+-- Behind steps over lines that say nothing.
+module _ (old mid : Reader) (before between : Option (List ℕ)) (first : GoesOn old mid before between) (good : old.bad ≡ None) where
+  pub next_after : (new : Reader) (after : Option (List ℕ)) (result : Result Line LineFault) → (passes : Passes mid new between after) × IsNext mid new passes.read passes.gone result → (passes : Passes old new before after) × IsNext old new passes.read passes.gone result
+  next_after new after result second = (passes-on old mid before between first good new after second.0, next-on old mid before between first good new after second.0 result second.1)
+
+  -- before the last read all that was kept and read said nothing
+  pub lazy_source : {A : Type 0} (left : A → Option (List ℕ)) (start was now : A) → (was ≡ start) ⊎ ReadsLazily old before (left was) → (now ≡ was) ⊎ (ReadsForLine mid.kept between (left now) × (mid.ended ≡ false)) → (now ≡ start) ⊎ ReadsLazily old before (left now)
+  lazy_source left start was now (inl same) (inl still) = inl (still ∙ same)
+  lazy_source left start was now (inr lazy) (inl still) = inr (rw still lazy)
+  lazy_source left start was now (inl same) (inr reads) = inr (reads-lazily old mid before between first good (left now) reads.1 reads.0)
+  lazy_source left start was now (inr lazy) (inr reads) = inr (reads-lazily old mid before between first good (left now) reads.1 reads.0)
+
+  -- and never behind its end
+  pub idle_source : {A : Type 0} {B : Type 0} (start was now : A) → (old.ended ≡ true → was ≡ start) → (now ≡ was) ⊎ (B × (mid.ended ≡ false)) → old.ended ≡ true → now ≡ start
+  idle_source start was now idle (inl still) ended = still ∙ idle ended
+  idle_source start was now idle (inr reads) ended = let no : false ≡ true = sym reads.1 ∙ (first.passes.stays ended).0 in cc no

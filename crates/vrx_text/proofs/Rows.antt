@@ -1,49 +1,71 @@
 -- Lines worked by hand: the definitions on them.
 use Rattle.std.specs.Prelude.{◌≡◌, [], ◌∷◌, ◌++◌, codes, refl, None, Some}
-use Rattle.vrx_core.specs.declared.event.Event.TheVariants.{Datagram, Pull}
-use Rattle.vrx_text.specs.Line.{lines_of, settings_in, line_in}
-use Rattle.vrx_text.specs.Transcript.{line_feed}
+use Rattle.vrx_core.specs.declared.event.Event.TheVariants.{Datagram, Tick, Pull}
+use Rattle.vrx_text.specs.Line.{lines_of, line_at}
+use Rattle.vrx_text.specs.Reading.{reading}
 use Rattle.vrx_text.specs.declared.line.LineKind.TheVariants.{Blank, Happens, Wrong}
+use Rattle.vrx_text.specs.declared.line.LineReason.TheVariants.{Lines, Kind, Events, Moment, End, Hex}
 use Rattle.vrx_text.proofs.OnLiterals.{text_on_literals}
 
 -- a line without a line feed at the end counts where it isn't empty
-pub three_lines : lines_of (codes "a" ++ line_feed ++ line_feed ++ codes "bc") ≡ codes "a" ∷ [] ∷ codes "bc" ∷ []
+pub three_lines : lines_of (codes "a" ++ (10 ∷ 10 ∷ codes "bc")) ≡ codes "a" ∷ [] ∷ codes "bc" ∷ []
 unfolding text_on_literals
 three_lines = refl
 
-pub settings : settings_in (codes "vrx 1 codec=vp8 ssrc=0000000a pt=96 from=0000000b") ≡ Some (record { media_ssrc = 10; media_type = 96; red = None; rtx = None; from_ssrc = 11; interval = 100 })
+pub two_lines : lines_of (codes "a" ++ (10 ∷ 10 ∷ [])) ≡ codes "a" ∷ [] ∷ []
 unfolding text_on_literals
-settings = refl
+two_lines = refl
 
--- upper-case digits, a leading zero, and more than eight bits are refused
-pub upper_case : settings_in (codes "vrx 1 codec=vp8 ssrc=0000000A pt=96 from=0000000b") ≡ None
-unfolding text_on_literals
-upper_case = refl
-
-pub leading_zero : settings_in (codes "vrx 1 codec=vp8 ssrc=0000000a pt=096 from=0000000b") ≡ None
-unfolding text_on_literals
-leading_zero = refl
-
-pub nine_bits : settings_in (codes "vrx 1 codec=vp8 ssrc=0000000a pt=256 from=0000000b") ≡ None
-unfolding text_on_literals
-nine_bits = refl
-
-pub a_datagram : line_in (codes "d 33 80fF") ≡ Happens (Datagram 33 (128 ∷ 255 ∷ []))
+pub a_datagram : line_at 1 2 0 (codes "d 33 80fF") ≡ Happens (Datagram 33 (128 ∷ 255 ∷ []))
 unfolding text_on_literals
 a_datagram = refl
 
-pub half_an_octet : line_in (codes "d 3 80e") ≡ Wrong
+pub a_tick : line_at 1 2 0 (codes "t 33") ≡ Happens (Tick 33)
 unfolding text_on_literals
-half_an_octet = refl
+a_tick = refl
 
-pub a_pull : line_in (codes "p 0") ≡ Happens (Pull 0)
+pub a_pull : line_at 1 2 0 (codes "p 0") ≡ Happens (Pull 0)
 unfolding text_on_literals
 a_pull = refl
 
-pub two_spaces : line_in (codes "p  0") ≡ Wrong
+pub a_comment : line_at 1 2 1 (codes "#p 0") ≡ Blank
+unfolding text_on_literals
+a_comment = refl
+
+-- one line for each reason but its length
+pub the_last : line_at 1 2097152 0 (codes "p 0") ≡ Happens (Pull 0)
+unfolding text_on_literals
+the_last = refl
+
+pub too_late : line_at 1 2097153 0 (codes "p 0") ≡ Wrong Lines
+unfolding text_on_literals
+too_late = refl
+
+pub no_kind : line_at 1 2 1 (codes "p") ≡ Wrong Kind
+unfolding text_on_literals
+no_kind = refl
+
+pub too_many : line_at 1 2 1 (codes "p 00") ≡ Wrong Events
+unfolding text_on_literals
+too_many = refl
+
+pub two_spaces : line_at 1 2 0 (codes "p  0") ≡ Wrong Moment
 unfolding text_on_literals
 two_spaces = refl
 
-pub a_comment : line_in (codes "#p 0") ≡ Blank
+pub a_space_behind : line_at 1 2 0 (codes "t 0 ") ≡ Wrong End
 unfolding text_on_literals
-a_comment = refl
+a_space_behind = refl
+
+pub half_an_octet : line_at 1 2 0 (codes "d 3 80e") ≡ Wrong Hex
+unfolding text_on_literals
+half_an_octet = refl
+
+-- the events up to the first bad line
+pub up_to_the_bad_line : reading 9 2 0 (codes "p 1" ∷ [] ∷ codes "t 2" ∷ codes "x" ∷ codes "p 3" ∷ []) ≡ record { events = (2, Pull 1) ∷ (4, Tick 2) ∷ []; bad = Some (5, Kind) }
+unfolding text_on_literals
+up_to_the_bad_line = refl
+
+pub no_bad_line : reading 9 2 0 (codes "p 1" ∷ codes "#" ∷ []) ≡ record { events = (2, Pull 1) ∷ []; bad = None }
+unfolding text_on_literals
+no_bad_line = refl

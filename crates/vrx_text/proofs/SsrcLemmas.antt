@@ -9,7 +9,7 @@ use Rattle.std.proofs.lemmas.Nat.{be_bytes_4, from_be_bytes-to_be_bytes_4}
 use Rattle.hex.specs.Hex.{IsBytes, decode_of, decode_pairs, decode_sized, digit_or_error, hex_digit_value, encode_lower, encode_with, lower_digits, pair_value, value_at, ◌>>=◌}
 use Rattle.hex.specs.declared.error.FromHexError.{FromHexError}
 use Rattle.hex.proofs.HexLemmas.{decode_of-even, decode_of-ok, decode_sized-ok, decode_sized-twice, decode_sized-encode_lower}
-use Rattle.vrx_text.specs.Line.{is_upper, ssrc_in}
+use Rattle.vrx_text.specs.SettingsLine.{is_upper, ssrc_in}
 use Rattle.vrx_text.proofs.NumberLemmas.{not_chosen}
 
 -- ---- the digits that are written

@@ -1,14 +1,15 @@
-//! The octets that were read and not given yet.
+//! The octets that were read and not passed over yet.
 
-ghost use Rattle.std.specs.Prelude.{◌≡◌, ℕ, ◌+◌, ◌-◌, ◌<◌, ◌≤◌, ◌⊎◌, List, [], Ok, ◌++◌, length, take, drop, IfOk, IfSome, IsNone, OnErr, Option, is_some, vec_len};
-ghost use Rattle.vrx_text.specs.Line.{feed_place};
+ghost use Rattle.std.specs.Prelude.{◌≡◌, ℕ, ◌+◌, ◌<◌, ◌≤◌, ◌⊎◌, true, false, [], Ok, ◌++◌, length, take, drop, IfOk, IfSome, IsNone, OnOk, OnErr, vec_len};
+ghost use Rattle.vrx_text.specs.Line.{feed_place, longest_line};
 ghost use Rattle.vrx_io.specs.Faults.{Rose};
 ghost use Rattle.vrx_io.specs.Source.{IsSpent};
 ghost use Rattle.vrx_text.specs.Ahead.{ahead};
 ghost use Rattle.vrx_text.specs.Found.{IsFound};
-ghost use Rattle.vrx_text.specs.Reading.{longest_line};
+ghost use Rattle.vrx_text.specs.Held.{ReadsOn, ReadsForLine};
 
-use crate::line::{from, upto};
+use crate::line::LONGEST_LINE;
+use crate::words::{from, upto};
 use std::alloc::Global;
 use std::marker::Model;
 use vrx_io::{Failed, Source};
@@ -17,22 +18,20 @@ use vrx_num::NoMemory;
 /// How many octets are held at most: more than the longest line, so that a read has room behind it.
 const ROOM: usize = 32_768;
 
-/// The longest line that may be taken.
-pub(crate) const LONGEST_LINE: usize = 20_000;
-
 const LINE_FEED: u8 = b'\n';
 
 /// What stands at the front of the octets held.
 pub(crate) enum Found {
-    /// A line of `len` octets, and behind it the others begin at `next`.
-    Line { len: usize, next: usize },
+    /// A line of `len` octets, with its line feed behind it where it isn't the last of its source.
+    Line { len: usize },
     /// A line that is too long to be taken.
     TooLong,
     /// Nothing, and nothing more comes.
     End,
 }
 
-/// The place of the first line feed, or the length where there is none, of octets of which the first `clear` are none.
+/// The place of the first line feed, or the length where there is none, of octets of which the first `clear` are
+/// none.
 #[tactic(auto, using(crate::proofs::PlaceLemmas::place_here, crate::proofs::PlaceLemmas::place_later, crate::proofs::PlaceLemmas::place_within))]
 fn line_feed_from(octets: &[u8], clear: usize) -> usize
     requires { clear ≤ feed_place octets.now }
@@ -78,7 +77,6 @@ fn read_from<S: Source>(source: &mut S, buffer: &mut [u8], at: usize) -> Result<
     ensures next { IfOk result (λ n.
         S.left source.old ≡ ahead (take n (drop at buffer.new)) (S.left source.new)) }
     ensures end { result ≡ Ok 0 → IsSpent (S.left source.new) }
-    ensures tells { is_some (S.left source.new) ≡ is_some (S.left source.old) }
     ensures failed { OnErr result (S.left source.new ≡ S.left source.old) }
     ensures later { S.faults source.old ≤ S.faults source.new }
     ensures cause { OnErr result (Rose (S.faults source.old) (S.faults source.new)) }
@@ -95,7 +93,6 @@ fn read_behind<S: Source>(source: &mut S, buffer: &mut Vec<u8>, at: usize) -> Re
     ensures next { IfOk result (λ n.
         S.left source.old ≡ ahead (take n (drop at buffer.new.items)) (S.left source.new)) }
     ensures end { result ≡ Ok 0 → IsSpent (S.left source.new) }
-    ensures tells { is_some (S.left source.new) ≡ is_some (S.left source.old) }
     ensures failed { OnErr result (S.left source.new ≡ S.left source.old) }
     ensures later { S.faults source.old ≤ S.faults source.new }
     ensures cause { OnErr result (Rose (S.faults source.old) (S.faults source.new)) }
@@ -104,7 +101,7 @@ fn read_behind<S: Source>(source: &mut S, buffer: &mut Vec<u8>, at: usize) -> Re
 }
 
 /// Reads behind the octets held, which are `len` from `start` on.
-#[tactic(auto, using(crate::proofs::HeldLemmas::ahead_grown, crate::proofs::HeldLemmas::same_held, crate::proofs::HeldLemmas::feed_grown))]
+#[tactic(auto, using(crate::proofs::HeldLemmas::grown, crate::proofs::HeldLemmas::same_held, crate::proofs::HeldLemmas::feed_grown))]
 fn read_held<S: Source>(
     source: &mut S,
     buffer: &mut Vec<u8>,
@@ -114,13 +111,14 @@ fn read_held<S: Source>(
     requires { start + len < vec_len buffer.old }
     ensures len { vec_len buffer.new ≡ vec_len buffer.old }
     ensures count { IfOk result (λ n. start + len + n ≤ vec_len buffer.old) }
-    ensures kept { take len (drop start buffer.new.items) ≡ take len (drop start buffer.old.items) }
-    ensures same { IfOk result (λ n.
-        ahead (take (len + n) (drop start buffer.new.items)) (S.left source.new) ≡ ahead (take len (drop start buffer.old.items)) (S.left source.old)) }
-    ensures clear { IfOk result (λ n.
-        feed_place (take len (drop start buffer.old.items)) ≤ feed_place (take (len + n) (drop start buffer.new.items))) }
+    ensures same { take len (drop start buffer.new.items) ≡ take len (drop start buffer.old.items) }
+    ensures grown { IfOk result (λ n. take (len + n) (drop start buffer.new.items) ≡
+        take len (drop start buffer.old.items) ++ take n (drop (start + len) buffer.new.items)) }
+    ensures clear { IfOk result (λ n. feed_place (take len (drop start buffer.old.items)) ≤
+        feed_place (take (len + n) (drop start buffer.new.items))) }
+    ensures next { IfOk result (λ n.
+        S.left source.old ≡ ahead (take n (drop (start + len) buffer.new.items)) (S.left source.new)) }
     ensures end { result ≡ Ok 0 → IsSpent (S.left source.new) }
-    ensures tells { is_some (S.left source.new) ≡ is_some (S.left source.old) }
     ensures failed { OnErr result (S.left source.new ≡ S.left source.old) }
     ensures later { S.faults source.old ≤ S.faults source.new }
     ensures cause { OnErr result (Rose (S.faults source.old) (S.faults source.new)) }
@@ -128,8 +126,9 @@ fn read_held<S: Source>(
     read_behind(source, buffer, start + len)
 }
 
-/// The octets that were read and not given yet, in a buffer of fixed size. Where the buffer ends, they move to its
-/// front, so that an octet moves at most once, and is searched for a line feed once.
+/// The octets that were read and not passed over yet, in a buffer of fixed size, and whether their source was read to
+/// its end. Where the buffer ends, they move to its front, so that an octet moves at most once, and is searched for a
+/// line feed once.
 #[derive(Drop)]
 pub(crate) struct Held {
     buffer: Vec<u8>,
@@ -138,15 +137,17 @@ pub(crate) struct Held {
     len: usize,
     /// How many of them are known to be no line feed.
     clear: usize,
+    ended: bool,
 }
 
 impl Model for Held {
-    ghost use Rattle.std.specs.Prelude.{◌≡◌, ℕ, ◌+◌, ◌≤◌, List, length, take, drop};
+    ghost use Rattle.std.specs.Prelude.{◌≡◌, ◌+◌, ◌≤◌, length, take, drop};
     ghost use Rattle.vrx_text.specs.Line.{feed_place};
+    ghost use Rattle.vrx_text.specs.Held.{Holding};
 
-    ghost Value = { List ℕ };
+    ghost Value = { Holding };
 
-    ghost view = { λ h. take h.len (drop h.start h.buffer.items) };
+    ghost view = { λ h. record { kept = take h.len (drop h.start h.buffer.items); ended = h.ended } };
 
     ghost invariant = { λ h. (length h.buffer.items ≡ 32768) × (h.start + h.len ≤ 32768) × (h.clear ≤ feed_place (take h.len (drop h.start h.buffer.items))) };
 }
@@ -154,21 +155,22 @@ impl Model for Held {
 impl Held {
     /// Nothing is held yet. The memory for all that will be held is taken now.
     pub(crate) fn new(alloc: Global) -> Result<Held, NoMemory>
-        ensures { IfOk result (λ held. held ≡ []) }
+        ensures { IfOk result (λ held. held ≡ record { kept = []; ended = false }) }
     {
         Ok(Held {
             buffer: vec![in alloc; 0u8; ROOM]?,
             start: 0,
             len: 0,
             clear: 0,
+            ended: false,
         })
     }
 
     /// The first octets.
     #[tactic(auto, using(crate::proofs::HeldLemmas::length_held))]
     pub(crate) fn front(&self, len: usize) -> &[u8]
-        requires { len ≤ length self.now }
-        ensures { result.now ≡ take len self.now }
+        requires { len ≤ length self.now.kept }
+        ensures { result.now ≡ take len self.now.kept }
     {
         let held = upto(from(self.buffer.as_slice(), self.start), self.len);
         upto(held, len)
@@ -176,19 +178,32 @@ impl Held {
 
     /// Passes over the first octets.
     #[tactic(auto, using(crate::proofs::HeldLemmas::length_held, crate::proofs::HeldLemmas::passed))]
-    pub(crate) fn pass(&mut self, count: usize)
-        requires { count ≤ length self.old }
-        ensures { self.new ≡ drop count self.old }
+    fn pass(&mut self, count: usize)
+        requires { count ≤ length self.old.kept }
+        ensures { self.new ≡ record self.old { kept = drop count self.old.kept } }
     {
         self.start += count;
         self.len -= count;
         self.clear = 0;
     }
 
+    /// Passes over a line of so many octets, and over the line feed behind it where there is one.
+    #[tactic(auto, using(crate::proofs::HeldLemmas::length_held, crate::proofs::HeldLemmas::drop_beyond))]
+    pub(crate) fn pass_line(&mut self, len: usize)
+        requires { len ≤ length self.old.kept }
+        ensures { self.new ≡ record self.old { kept = drop (len + 1) self.old.kept } }
+    {
+        if len < self.len() {
+            self.pass(len + 1);
+        } else {
+            self.pass(len);
+        }
+    }
+
     /// The place of the first line feed, or the number of octets held where there is none.
     #[tactic(auto, using(crate::proofs::HeldLemmas::length_held))]
     fn line_feed(&mut self) -> usize
-        ensures place { result ≡ feed_place self.old }
+        ensures place { result ≡ feed_place self.old.kept }
         ensures same { self.new ≡ self.old }
     {
         let held = upto(from(self.buffer.as_slice(), self.start), self.len);
@@ -197,80 +212,84 @@ impl Held {
         place
     }
 
-    /// Reads more octets behind those held, and says how many came: 0 at the end alone. After `Failed` the same are held.
-    #[tactic(auto, using(crate::proofs::HeldLemmas::length_held, crate::proofs::HeldLemmas::grown, crate::proofs::HeldLemmas::same_held, crate::proofs::HeldLemmas::feed_le_append))]
-    fn more<S: Source>(&mut self, source: &mut S) -> Result<usize, Failed>
-        requires { length self.old ≤ longest_line }
-        ensures count { IfOk result (λ n. length self.new ≡ length self.old + n) }
-        ensures same { ahead self.new (S.left source.new) ≡ ahead self.old (S.left source.old) }
-        ensures end { result ≡ Ok 0 → (self.new ≡ self.old) × IsSpent (S.left source.new) }
-        ensures failed { OnErr result (self.new ≡ self.old) }
-        ensures tells { is_some (S.left source.new) ≡ is_some (S.left source.old) }
+    /// Reads once behind the octets held, or finds that their source is at its end. After `Failed` the same are held.
+    #[tactic(auto, using(crate::proofs::HeldLemmas::length_held, crate::proofs::HeldLemmas::same_held, crate::proofs::HeldLemmas::feed_le_append))]
+    fn more<S: Source>(&mut self, source: &mut S) -> Result<(), Failed>
+        requires short { length self.old.kept ≤ longest_line }
+        requires going { self.old.ended ≡ false }
+        ensures reads { OnOk result (ReadsOn self.old self.new (S.left source.old) (S.left source.new)) }
+        ensures grows { OnOk result ((self.new.ended ≡ true) ⊎ (length self.old.kept < length self.new.kept)) }
+        ensures failed { OnErr result
+            ((self.new ≡ self.old) × (S.left source.new ≡ S.left source.old)) }
         ensures later { S.faults source.old ≤ S.faults source.new }
         ensures cause { OnErr result (Rose (S.faults source.old) (S.faults source.new)) }
     {
         self.start = make_room(&mut self.buffer, self.start, self.len);
         let n = read_held(source, &mut self.buffer, self.start, self.len)?;
         self.len += n;
-        Ok(n)
+        self.ended = n == 0;
+        Ok(())
     }
 
     /// How many octets are held.
     #[tactic(auto, using(crate::proofs::HeldLemmas::length_held))]
     fn len(&self) -> usize
-        ensures { result ≡ length self.now }
+        ensures { result ≡ length self.now.kept }
     {
         self.len
     }
 
-    /// What stands at the front, where the octets held tell it, whatever the source has left.
-    #[tactic(auto, using(crate::proofs::FoundLemmas::found_line, crate::proofs::FoundLemmas::found_too_long, crate::proofs::PlaceLemmas::place_within))]
+    /// What stands at the front, where no line feed is held and nothing more comes.
+    #[tactic(auto, using(crate::proofs::HeldLemmas::length_held))]
+    fn last(&self) -> Found
+        requires no_feed { feed_place self.now.kept ≡ length self.now.kept }
+        requires short { length self.now.kept ≤ longest_line }
+        requires end { self.now.ended ≡ true }
+        ensures { IsFound self.now.kept self.now.ended result }
+    {
+        let len = self.len();
+        if len == 0 {
+            return Found::End;
+        }
+        Found::Line { len }
+    }
+
+    /// What stands at the front, where that is known; else more has to be read.
+    #[tactic(auto, using(crate::proofs::PlaceLemmas::place_within))]
     fn known(&mut self) -> Option<Found>
         ensures same { self.new ≡ self.old }
-        ensures known { IfSome result (λ found. (left : Option (List ℕ)) → IsFound self.new left found) }
-        ensures no_feed { IsNone result → feed_place self.old ≡ length self.old }
-        ensures short { IsNone result → length self.old ≤ longest_line }
+        ensures found { IfSome result (IsFound self.old.kept self.old.ended) }
+        ensures no_feed { IsNone result → feed_place self.old.kept ≡ length self.old.kept }
+        ensures short { IsNone result → length self.old.kept ≤ longest_line }
+        ensures going { IsNone result → self.old.ended ≡ false }
     {
         let len = self.line_feed();
         if len > LONGEST_LINE {
             return Some(Found::TooLong);
         }
         if len < self.len() {
-            return Some(Found::Line { len, next: len + 1 });
+            return Some(Found::Line { len });
         }
-        None
+        if self.ended { Some(self.last()) } else { None }
     }
 
-    /// What stands at the front, where nothing more comes.
-    #[tactic(auto, using(crate::proofs::FoundLemmas::found_last, crate::proofs::FoundLemmas::found_end))]
-    fn last(&self) -> Found
-        requires no_feed { feed_place self.now ≡ length self.now }
-        requires short { length self.now ≤ longest_line }
-        ensures { (left : Option (List ℕ)) → IsSpent left → IsFound self.now left result }
-    {
-        let len = self.len();
-        if len == 0 {
-            return Found::End;
-        }
-        Found::Line { len, next: len }
-    }
-
-    /// What stands at the front: it reads on until that is known. After `Failed` the same octets lie ahead.
+    /// What stands at the front: it reads on until that is known, and only where no whole line is held. After
+    /// `Failed` what was read before is held.
     pub(crate) fn find<S: Source>(&mut self, source: &mut S) -> Result<Found, Failed>
-        ensures found { IfOk result (IsFound self.new (S.left source.new)) }
-        ensures same { ahead self.new (S.left source.new) ≡ ahead self.old (S.left source.old) }
-        ensures tells { is_some (S.left source.new) ≡ is_some (S.left source.old) }
+        ensures found { IfOk result (IsFound self.new.kept self.new.ended) }
+        ensures reads { ReadsOn self.old self.new (S.left source.old) (S.left source.new) }
+        ensures lazy { ((source.new ≡ source.old) × (self.new ≡ self.old)) ⊎
+            (ReadsForLine self.old.kept (S.left source.old) (S.left source.new) ×
+            (self.old.ended ≡ false)) }
+        ensures failed { OnErr result ((feed_place self.new.kept ≡ length self.new.kept) ×
+            (self.new.ended ≡ false) × (length self.new.kept ≤ longest_line)) }
         ensures later { S.faults source.old ≤ S.faults source.new }
         ensures cause { OnErr result (Rose (S.faults source.old) (S.faults source.new)) }
     {
         'reads: loop {
             match self.known() {
                 Some(found) => return Ok(found),
-                None => {
-                    if self.more(source)? == 0 {
-                        return Ok(self.last());
-                    }
-                }
+                None => self.more(source)?,
             }
         }
     }

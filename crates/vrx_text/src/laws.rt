@@ -1,22 +1,60 @@
 //! What holds of the grammar of lines itself.
 
-ghost use Rattle.std.specs.Prelude.{◌≡◌, ℕ, ◌<◌, ◌≤◌, ◌^◌, ◌++◌, ◌↔◌, List, Some, codes};
+ghost use Rattle.std.specs.Prelude.{◌≡◌, ℕ, ◌<◌, ◌≤◌, ◌^◌, ◌++◌, ◌↔◌, List, Some, codes, length};
 ghost use Rattle.std.specs.Fmt.{decimal};
-ghost use Rattle.vrx_core.specs.declared.event.Event.TheVariants.{Datagram, Pull};
-ghost use Rattle.vrx_core.specs.declared.settings.Settings.{Settings};
-ghost use Rattle.vrx_text.specs.Line.{latest_moment, number_in, pull_in, datagram_in, settings_in};
-ghost use Rattle.vrx_text.specs.IsLine.{IsDatagramLine, IsSettingsLine};
+ghost use Rattle.vrx_core.specs.declared.event.Event.TheVariants.{Datagram, Tick, Pull};
+ghost use Rattle.vrx_text.specs.Words.{number_in};
+ghost use Rattle.vrx_core.specs.declared.event.Event.{Event};
+ghost use Rattle.vrx_text.specs.Line.{latest_moment, longest_line, most_lines, event_in, line_at};
+ghost use Rattle.vrx_text.specs.IsLine.{IsDatagramLine, IsBlankLine, IsFirstReason};
+ghost use Rattle.vrx_text.specs.declared.line.LineKind.TheVariants.{Blank, Happens, Wrong};
+ghost use Rattle.vrx_text.specs.declared.line.LineReason.{LineReason};
+ghost use Rattle.vrx_text.specs.Joins.{LinesJoin, ReadingsJoin};
+ghost use Rattle.vrx_text.specs.Reading.{sound, reading};
+ghost use Rattle.vrx_text.specs.Readings.{AreGood, HasBad};
+
+/// How the answers of several calls join: the lines of whole lines and of what stands behind them, and what these
+/// lines give. The function does nothing.
+pub fn lines_join()
+    ensures lines { LinesJoin }
+    ensures readings { ReadingsJoin }
+{}
 
 /// What the grammar of lines means. Digits are a number just where it is written so in decimal, as a transcript
-/// writes numbers too; and a line is a pull, a datagram or the settings line just where it is spelled so. The function
+/// writes numbers too; and a line tells a datagram, a tick or a pull just where it is spelled so. The function
 /// does nothing.
 pub fn lines_mean()
     ensures number { (most n : ℕ) (digits : List ℕ) → most < 2 ^ 64 →
         ((number_in most digits ≡ Some n) ↔ ((digits ≡ decimal n) × (n ≤ most))) }
-    ensures pull { (line : List ℕ) (m : ℕ) →
-        ((pull_in line ≡ Some (Pull m)) ↔ ((line ≡ codes "p " ++ decimal m) × (m ≤ latest_moment))) }
     ensures datagram { (line : List ℕ) (m : ℕ) (octets : List ℕ) →
-        ((datagram_in line ≡ Some (Datagram m octets)) ↔ IsDatagramLine line m octets) }
-    ensures settings { (line : List ℕ) (s : Settings) →
-        ((settings_in line ≡ Some s) ↔ IsSettingsLine line s) }
+        ((event_in line ≡ Some (Datagram m octets)) ↔ IsDatagramLine line m octets) }
+    ensures tick { (line : List ℕ) (m : ℕ) →
+        ((event_in line ≡ Some (Tick m)) ↔ ((line ≡ codes "t " ++ decimal m) × (m ≤ latest_moment))) }
+    ensures pull { (line : List ℕ) (m : ℕ) →
+        ((event_in line ≡ Some (Pull m)) ↔ ((line ≡ codes "p " ++ decimal m) × (m ≤ latest_moment))) }
+{}
+
+/// What a line says, in words of octets: that it is bad for the first of the reasons that apply, where one does;
+/// nothing, where it is empty or a comment within the limits; and an event, where it tells it within the limits. The
+/// function does nothing.
+pub fn reasons_mean()
+    ensures wrong { (max k events : ℕ) (line : List ℕ) (reason : LineReason) →
+        ((line_at max k events line ≡ Wrong reason) ↔ IsFirstReason max k events line reason) }
+    ensures blank { (max k events : ℕ) (line : List ℕ) → ((line_at max k events line ≡ Blank) ↔
+        ((k ≤ most_lines) × (length line ≤ longest_line) × IsBlankLine line)) }
+    ensures happens { (max k events : ℕ) (line : List ℕ) (event : Event) →
+        ((line_at max k events line ≡ Happens event) ↔ ((k ≤ most_lines) × (length line ≤ longest_line) ×
+        (events < max) × (event_in line ≡ Some event))) }
+{}
+
+/// What lines give, by what each of them is: they give these events and no bad line just where each says nothing or
+/// tells the next event; and line `j` is bad for a reason just where it is the first bad one among them, this is its
+/// first reason, and the lines before it give the events. The function does nothing.
+pub fn readings_are()
+    ensures good { (max k events : ℕ) (lines : List (List ℕ)) (given : List (ℕ × Event)) →
+        ((reading max k events lines ≡ sound given) ↔ AreGood max k events lines given) }
+    ensures bad { (max k events : ℕ) (lines : List (List ℕ)) (given : List (ℕ × Event))
+        (j : ℕ) (reason : LineReason) →
+        ((reading max k events lines ≡ record { events = given; bad = Some (j, reason) }) ↔
+        HasBad max k events lines given j reason) }
 {}

@@ -9,25 +9,40 @@
 //! p 40
 //! ```
 //!
-//! `specs/Line.antt` says what each line may hold, and `specs/Reading.antt` what the lines give together and the limits
-//! on them. [`Lines`] reads a capture from a source, event after event, in a memory that doesn't grow with it: begin
-//! with [`Lines::head`] and [`read_settings`], and go on with [`Lines::next`]. `specs/Reader.antt` says what they answer,
-//! and `proofs/CallerLemmas.antt` what that means over a source that tells its bytes.
+//! `specs/Line.antt` says what each line may hold and the limits on them, and `specs/Reading.antt` what the lines
+//! give together; `specs/Readings.antt` and [`readings_are`] tell that again by what each line is. [`Lines`] reads a
+//! capture from a source, event after event, in a memory that doesn't grow with it: begin with [`Lines::head`] and
+//! [`read_settings`], and go on with [`Lines::next`]. `specs/Reader.antt` says what they answer, and [`lines_join`]
+//! how the answers of several calls join.
 //!
-//! A transcript has one line for each event, and an error line where a line is bad: `specs/Transcript.antt`. The texts
-//! of [`text_of_handled`], [`text_of_pulled`] and [`text_of_error`] are its lines. The crate neither runs the receiver
-//! nor writes to a sink.
+//! A transcript has the lines of the reply to each event, and an error line where a line is bad:
+//! `specs/Transcript.antt`. The texts of [`text_of_handled`], [`text_of_tick`], [`text_of_pulled`] and
+//! [`text_of_error`] are these lines. An inspection has one line for each datagram, of what it is as RTP or RTCP:
+//! [`inspect_text`], after `specs/Inspection.antt`. The crate neither runs the receiver nor writes to a sink.
 #![tactic(auto)]
 
 mod held;
+mod inspection;
+#[cfg(test)]
+mod inspection_tests;
 mod laws;
 mod line;
 mod lines;
+mod settings_laws;
+mod settings_line;
+#[cfg(test)]
+mod settings_tests;
 #[cfg(test)]
 mod tests;
 mod transcript;
+#[cfg(test)]
+mod transcript_tests;
+mod words;
 
-pub use laws::lines_mean;
-pub use line::{LineKind, read_line, read_settings};
+pub use inspection::inspect_text;
+pub use laws::{lines_join, lines_mean, readings_are, reasons_mean};
+pub use line::{LineKind, LineReason, read_line};
 pub use lines::{HeadFault, Line, LineFault, Lines};
-pub use transcript::{text_of_error, text_of_handled, text_of_pulled};
+pub use settings_laws::settings_lines_mean;
+pub use settings_line::{CodecName, read_settings};
+pub use transcript::{ErrorReason, text_of_error, text_of_handled, text_of_pulled, text_of_tick};

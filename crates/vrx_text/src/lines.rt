@@ -1,24 +1,21 @@
 //! A capture, line by line.
 
-ghost use Rattle.std.specs.Prelude.{◌≡◌, ◌≢◌, ℕ, ◌+◌, ◌<◌, ◌≤◌, Ok, Err, Some, None, length, take, drop, IfOk, IfSome, OnOk, OnErr, is_some};
+ghost use Rattle.std.specs.Prelude.{is_some, ◌≡◌, ◌≢◌, ℕ, ◌+◌, ◌<◌, ◌≤◌, ◌⊎◌, true, false, Ok, Err, Some, None, length, take, IfOk, IfSome, OnOk, OnErr, MatchResult};
 ghost use Rattle.std.specs.Option.{option_map};
 ghost use Rattle.vrx_io.specs.Faults.{Rose};
-ghost use Rattle.vrx_text.specs.Ahead.{ahead, lines_ahead};
+ghost use Rattle.vrx_text.specs.Line.{feed_place, line_at, longest_line, most_lines};
+ghost use Rattle.vrx_text.specs.Held.{ReadsOn, ReadsForLine};
 ghost use Rattle.vrx_text.specs.Found.{IsFound};
-ghost use Rattle.vrx_text.specs.Reading.{line_at, most_lines, longest_line};
 ghost use Rattle.vrx_text.specs.Step.{IsWithin};
 
-use crate::held::{Found, Held, LONGEST_LINE};
-use crate::line::{LineKind, read_line};
+use crate::held::{Found, Held};
+use crate::line::{LineKind, LineReason, MOST_LINES, read_line};
 use std::alloc::Global;
 use std::marker::Model;
 use thiserror::Error;
 use vrx_core::Event;
 use vrx_io::{Failed, Source};
 use vrx_num::NoMemory;
-
-/// How many lines a capture may have.
-const MOST_LINES: u32 = 2_097_152;
 
 /// What a capture says next.
 #[derive(Debug, Drop)]
@@ -32,9 +29,9 @@ pub enum Line {
 /// Why no line was given.
 #[derive(Clone, Copy, Debug, PartialEq, Eq, Error)]
 pub enum LineFault {
-    /// Line `k` holds what a capture may not hold. Each later call answers the same.
+    /// Line `k` holds what a capture may not hold, for this reason. Each later call answers the same.
     #[error("line {k} is bad")]
-    Bad { k: u32 },
+    Bad { k: u32, reason: LineReason },
     /// A read failed. The next call goes on with the same line.
     #[error("a read failed")]
     ReadFault,
@@ -43,7 +40,7 @@ pub enum LineFault {
     NoMemory,
 }
 
-/// Why the first line was not given. The next call goes on with the same line.
+/// Why the next line was not given as it stands. The next call goes on with the same line.
 #[derive(Clone, Copy, Debug, PartialEq, Eq, Error)]
 pub enum HeadFault {
     /// A read failed.
@@ -54,26 +51,12 @@ pub enum HeadFault {
     NoMemory,
 }
 
-/// What line `k` says, behind this many event lines.
-#[tactic(auto, unfolding(crate::specs::Reading::line_at))]
+/// What line `k` says, behind this many event lines of at most `max`.
 fn kind_at(alloc: Global, max: u32, k: u32, events: u32, line: &[u8]) -> Result<LineKind, NoMemory>
     ensures kind { IfOk result (λ kind. kind ≡ line_at max k events line.now) }
     ensures within { IfOk result (IsWithin max k events) }
 {
-    if k > MOST_LINES || line.len() > LONGEST_LINE {
-        return Ok(LineKind::Wrong);
-    }
-    match read_line(alloc, line)? {
-        LineKind::Blank => Ok(LineKind::Blank),
-        LineKind::Wrong => Ok(LineKind::Wrong),
-        LineKind::Happens(event) => {
-            if events < max {
-                Ok(LineKind::Happens(event))
-            } else {
-                Ok(LineKind::Wrong)
-            }
-        }
-    }
+    read_line(alloc, max, k, events, line)
 }
 
 /// The octets in memory of their own.
@@ -85,7 +68,8 @@ fn copied(alloc: Global, octets: &[u8]) -> Result<Vec<u8>, NoMemory>
 
 /// A reader of a capture: it gives the head line as it stands, and then event after event.
 ///
-/// It takes the memory for a fixed number of octets once, and reads only where it holds no whole line.
+/// It takes the memory for a fixed number of octets once, reads only where it holds no whole line that says
+/// something, and never again once its source was at its end.
 #[derive(Drop)]
 pub struct Lines {
     alloc: Global,
@@ -93,7 +77,7 @@ pub struct Lines {
     given: u32,
     events: u32,
     max: u32,
-    bad: Option<u32>,
+    bad: Option<(u32, LineReason)>,
 }
 
 impl Model for Lines {
@@ -102,14 +86,14 @@ impl Model for Lines {
 
     ghost Value = { Reader };
 
-    ghost view = { λ a. record { kept = a.held; given = a.given; events = a.events; max = a.max; bad = a.bad } };
+    ghost view = { λ a. record { kept = a.held.kept; ended = a.held.ended; given = a.given; events = a.events; max = a.max; bad = a.bad } };
 
     ghost invariant = { λ a. (a.given ≤ 2097152) × (a.events ≤ a.max) };
 }
 
 impl Lines {
-    ghost use Rattle.vrx_text.specs.Reader.{opening, due, IsNext, IsHead, CountsEvents, KeepsCounts};
-    ghost use Rattle.vrx_text.specs.Step.{IsTaken, IsStep, CountsStep, passed};
+    ghost use Rattle.vrx_text.specs.Reader.{opening, Passes, IsNext, IsHead, IsHeadFault, HasNoFeed, ReadsLazily};
+    ghost use Rattle.vrx_text.specs.Step.{IsTaken, IsStep, KeepsCounts, held_by, long_reason, passed};
 
     /// A reader that has given nothing yet, and gives `max_events` events at most.
     pub fn new(alloc: Global, max_events: u32) -> Result<Lines, NoMemory>
@@ -125,11 +109,16 @@ impl Lines {
         })
     }
 
-    /// What stands at the front of what is ahead.
+    /// What stands at the front of what is held and what the source has left.
     fn find<S: Source>(&mut self, source: &mut S) -> Result<Found, Failed>
-        ensures found { IfOk result (IsFound self.new.kept (S.left source.new)) }
-        ensures same { ahead self.new.kept (S.left source.new) ≡ ahead self.old.kept (S.left source.old) }
+        ensures found { IfOk result (IsFound self.new.kept self.new.ended) }
+        ensures reads { ReadsOn (held_by self.old) (held_by self.new) (S.left source.old) (S.left source.new) }
         ensures counts { KeepsCounts self.old self.new }
+        ensures lazy { (source.new ≡ source.old) ⊎
+            (ReadsForLine self.old.kept (S.left source.old) (S.left source.new) ×
+            (self.old.ended ≡ false)) }
+        ensures failed { OnErr result (HasNoFeed self.new.kept × (self.new.ended ≡ false) ×
+            (length self.new.kept ≤ longest_line)) }
         ensures tells { is_some (S.left source.new) ≡ is_some (S.left source.old) }
         ensures later { S.faults source.old ≤ S.faults source.new }
         ensures cause { OnErr result (Rose (S.faults source.old) (S.faults source.new)) }
@@ -154,113 +143,94 @@ impl Lines {
     }
 
     /// Passes over the next line, which is so many event lines.
-    fn pass(&mut self, next: usize, count: u32)
-        requires behind { next ≤ length self.old.kept }
+    fn pass(&mut self, len: usize, count: u32)
+        requires within { len ≤ length self.old.kept }
         requires given { self.old.given + 1 ≤ most_lines }
         requires events { self.old.events + count ≤ self.old.max }
-        ensures { self.new ≡ passed self.old next count }
+        ensures { self.new ≡ passed self.old len count }
     {
-        self.held.pass(next);
+        self.held.pass_line(len);
         self.given += 1;
         self.events += count;
     }
 
-    /// Says that the next line is bad, and its number.
-    fn refuse(&mut self) -> u32
-        ensures bad { self.new ≡ record self.old { bad = Some (self.old.given + 1) } }
-        ensures number { result ≡ self.old.given + 1 }
+    /// Says that the next line is bad, for this reason.
+    fn refuse(&mut self, reason: LineReason) -> LineFault
+        ensures bad { self.new ≡ record self.old { bad = Some (self.old.given + 1, reason) } }
+        ensures fault { result ≡ LineFault.Bad (self.old.given + 1) reason }
     {
         let k = self.given + 1;
-        self.bad = Some(k);
-        k
+        self.bad = Some((k, reason));
+        LineFault::Bad { k, reason }
+    }
+
+    /// Says that the next line is too long, where it isn't one too many.
+    fn refuse_long(&mut self) -> LineFault
+        ensures bad { self.new ≡ record self.old { bad = Some (self.old.given + 1, long_reason (self.old.given + 1)) } }
+        ensures fault { result ≡ LineFault.Bad (self.old.given + 1) (long_reason (self.old.given + 1)) }
+    {
+        if self.given >= MOST_LINES {
+            self.refuse(LineReason::Lines)
+        } else {
+            self.refuse(LineReason::Long)
+        }
     }
 
     /// Takes the next line, which is the first octets held.
-    fn take(&mut self, len: usize, next: usize) -> Result<Option<Line>, LineFault>
-        requires within { len ≤ length self.old.kept }
-        requires behind { next ≤ length self.old.kept }
-        ensures taken { IsTaken self.old (line_at self.old.max (self.old.given + 1) self.old.events (take len self.old.kept)) next self.new result }
+    fn take(&mut self, len: usize) -> Result<Option<Line>, LineFault>
+        requires { len ≤ length self.old.kept }
+        ensures taken { IsTaken self.old (line_at self.old.max (self.old.given + 1) self.old.events (take len self.old.kept)) len self.new result }
         ensures passed { result ≡ Ok None →
             (self.new.given ≡ self.old.given + 1) × (self.old.given + 1 ≤ most_lines) }
-        ensures counted { CountsStep self.old self.new result }
-        ensures max { self.new.max ≡ self.old.max }
         ensures no_fault { result ≢ Err LineFault.ReadFault }
-        ensures noted { (k : ℕ) → result ≡ Err (LineFault.Bad k) → self.new.bad ≡ Some k }
     {
         let k = self.given + 1;
         match self.kind(len) {
             Err(_) => Err(LineFault::NoMemory),
             Ok(LineKind::Blank) => {
-                self.pass(next, 0);
+                self.pass(len, 0);
                 Ok(None)
             }
             Ok(LineKind::Happens(event)) => {
-                self.pass(next, 1);
+                self.pass(len, 1);
                 Ok(Some(Line::Event { k, event }))
             }
-            Ok(LineKind::Wrong) => Err(LineFault::Bad { k: self.refuse() }),
+            Ok(LineKind::Wrong(reason)) => Err(self.refuse(reason)),
         }
     }
 
     /// Takes the next line, where none was bad so far.
-    fn step_on<S: Source>(&mut self, source: &mut S) -> Result<Option<Line>, LineFault>
+    fn step<S: Source>(&mut self, source: &mut S) -> Result<Option<Line>, LineFault>
         requires { self.old.bad ≡ None }
-        ensures step { IsStep (due self.old (S.left source.old)) self.new (S.left source.new) result }
-        ensures counted { CountsStep self.old self.new result }
+        ensures step { IsStep self.old self.new (S.left source.old) (S.left source.new) result }
+        ensures lazy { (source.new ≡ source.old) ⊎
+            (ReadsForLine self.old.kept (S.left source.old) (S.left source.new) ×
+            (self.old.ended ≡ false)) }
         ensures passed { result ≡ Ok None →
             (self.new.given ≡ self.old.given + 1) × (self.old.given + 1 ≤ most_lines) }
-        ensures max { self.new.max ≡ self.old.max }
-        ensures tells { is_some (S.left source.new) ≡ is_some (S.left source.old) }
         ensures later { S.faults source.old ≤ S.faults source.new }
         ensures cause { result ≡ Err LineFault.ReadFault →
             Rose (S.faults source.old) (S.faults source.new) }
-        ensures noted { (k : ℕ) → result ≡ Err (LineFault.Bad k) → self.new.bad ≡ Some k }
     {
         match self.find(source) {
             Err(_) => Err(LineFault::ReadFault),
             Ok(Found::End) => Ok(Some(Line::End)),
-            Ok(Found::TooLong) => Err(LineFault::Bad { k: self.refuse() }),
-            Ok(Found::Line { len, next }) => self.take(len, next),
+            Ok(Found::TooLong) => Err(self.refuse_long()),
+            Ok(Found::Line { len }) => self.take(len),
         }
     }
 
-    /// Takes the next line.
-    #[tactic(auto, using(crate::proofs::ReaderLemmas::step_bad))]
-    fn step<S: Source>(&mut self, source: &mut S) -> Result<Option<Line>, LineFault>
-        ensures step { IsStep (due self.old (S.left source.old)) self.new (S.left source.new) result }
-        ensures counted { CountsStep self.old self.new result }
-        ensures passed { result ≡ Ok None →
-            (self.new.given ≡ self.old.given + 1) × (self.old.given + 1 ≤ most_lines) }
-        ensures max { self.new.max ≡ self.old.max }
-        ensures tells { is_some (S.left source.new) ≡ is_some (S.left source.old) }
+    /// The next event, or that there is none, where no line was bad so far.
+    fn next_on<S: Source>(&mut self, source: &mut S) -> Result<Line, LineFault>
+        requires { self.old.bad ≡ None }
+        ensures next { (passes : Passes self.old self.new (S.left source.old) (S.left source.new)) ×
+            IsNext self.old self.new passes.read passes.gone result }
+        ensures lazy { (source.new ≡ source.old) ⊎
+            ReadsLazily self.old (S.left source.old) (S.left source.new) }
+        ensures idle { self.old.ended ≡ true → source.new ≡ source.old }
         ensures later { S.faults source.old ≤ S.faults source.new }
         ensures cause { result ≡ Err LineFault.ReadFault →
             Rose (S.faults source.old) (S.faults source.new) }
-        ensures stays { IfSome self.old.bad (λ k. (result ≡ Err (LineFault.Bad k)) ×
-            (self.new ≡ self.old) × (source.new ≡ source.old)) }
-        ensures noted { (k : ℕ) → result ≡ Err (LineFault.Bad k) → self.new.bad ≡ Some k }
-    {
-        match self.bad {
-            Some(k) => Err(LineFault::Bad { k }),
-            None => self.step_on(source),
-        }
-    }
-
-    /// The next event, or that there is none. Empty lines and comments are passed over.
-    ///
-    /// After `ReadFault` and `NoMemory` what was read is kept, and the next call goes on with the same line; `Bad`
-    /// stays for good.
-    pub fn next<S: Source>(&mut self, source: &mut S) -> Result<Line, LineFault>
-        ensures next { IsNext (due self.old (S.left source.old)) self.new (S.left source.new) result }
-        ensures counted { CountsEvents self.old self.new result }
-        ensures max { self.new.max ≡ self.old.max }
-        ensures tells { is_some (S.left source.new) ≡ is_some (S.left source.old) }
-        ensures later { S.faults source.old ≤ S.faults source.new }
-        ensures cause { result ≡ Err LineFault.ReadFault →
-            Rose (S.faults source.old) (S.faults source.new) }
-        ensures stays { IfSome self.old.bad (λ k. (result ≡ Err (LineFault.Bad k)) ×
-            (self.new ≡ self.old) × (source.new ≡ source.old)) }
-        ensures noted { (k : ℕ) → result ≡ Err (LineFault.Bad k) → self.new.bad ≡ Some k }
     {
         'lines: loop {
             match self.step(source) {
@@ -271,18 +241,39 @@ impl Lines {
         }
     }
 
+    /// The next event, or that there is none. Empty lines and comments are passed over.
+    ///
+    /// After `ReadFault` and `NoMemory` what was read is kept, and the next call goes on with the same line; `Bad`
+    /// stays for good.
+    pub fn next<S: Source>(&mut self, source: &mut S) -> Result<Line, LineFault>
+        ensures next { (passes : Passes self.old self.new (S.left source.old) (S.left source.new)) ×
+            IsNext self.old self.new passes.read passes.gone result }
+        ensures lazy { (source.new ≡ source.old) ⊎
+            ReadsLazily self.old (S.left source.old) (S.left source.new) }
+        ensures idle { self.old.ended ≡ true → source.new ≡ source.old }
+        ensures tells { is_some (S.left source.new) ≡ is_some (S.left source.old) }
+        ensures later { S.faults source.old ≤ S.faults source.new }
+        ensures cause { result ≡ Err LineFault.ReadFault →
+            Rose (S.faults source.old) (S.faults source.new) }
+        ensures stays { IfSome self.old.bad (λ bad. (result ≡ Err (LineFault.Bad bad.0 bad.1)) ×
+            (self.new ≡ self.old) × (source.new ≡ source.old)) }
+    {
+        match self.bad {
+            Some((k, reason)) => Err(LineFault::Bad { k, reason }),
+            None => self.next_on(source),
+        }
+    }
+
     /// Gives the next line as it stands, which is the first octets held.
-    fn take_head(&mut self, len: usize, next: usize) -> Result<Vec<u8>, NoMemory>
+    fn take_head(&mut self, len: usize) -> Result<Vec<u8>, NoMemory>
         requires within { len ≤ length self.old.kept }
-        requires behind { next ≤ length self.old.kept }
         requires given { self.old.given + 1 ≤ most_lines }
         ensures line { IfOk result (λ line. line.items ≡ take len self.old.kept) }
-        ensures passed { OnOk result (self.new ≡ passed self.old next 0) }
+        ensures passed { OnOk result (self.new ≡ passed self.old len 0) }
         ensures err { OnErr result (self.new ≡ self.old) }
     {
         let line = copied(self.alloc, self.held.front(len))?;
-        self.held.pass(next);
-        self.given += 1;
+        self.pass(len, 0);
         Ok(line)
     }
 
@@ -291,11 +282,14 @@ impl Lines {
     ///
     /// After an error what was read is kept, and the next call goes on with the same line.
     pub fn head<S: Source>(&mut self, source: &mut S) -> Result<Option<Vec<u8>>, HeadFault>
-        ensures head { IfOk result (λ head.
-            IsHead self.old (S.left source.old) self.new (S.left source.new) (option_map (λ line.
-            line.items) head)) }
-        ensures same { OnErr result (lines_ahead self.new.kept (S.left source.new) ≡ lines_ahead self.old.kept (S.left source.old)) }
-        ensures counts { OnErr result (KeepsCounts self.old self.new) }
+        ensures passes { (passes : Passes self.old self.new (S.left source.old) (S.left source.new)) ×
+            MatchResult result
+            (λ head. IsHead self.old self.new passes.read passes.gone (option_map (λ line. line.items) head))
+            (λ fault. IsHeadFault self.new passes.gone fault) }
+        ensures counts { (self.new.events ≡ self.old.events) × (self.new.bad ≡ self.old.bad) }
+        ensures lazy { (source.new ≡ source.old) ⊎
+            ReadsForLine self.old.kept (S.left source.old) (S.left source.new) }
+        ensures idle { self.old.ended ≡ true → source.new ≡ source.old }
         ensures tells { is_some (S.left source.new) ≡ is_some (S.left source.old) }
         ensures later { S.faults source.old ≤ S.faults source.new }
         ensures cause { result ≡ Err HeadFault.ReadFault →
@@ -308,7 +302,7 @@ impl Lines {
             Err(_) => Err(HeadFault::ReadFault),
             Ok(Found::End) => Ok(None),
             Ok(Found::TooLong) => Ok(None),
-            Ok(Found::Line { len, next }) => match self.take_head(len, next) {
+            Ok(Found::Line { len }) => match self.take_head(len) {
                 Ok(line) => Ok(Some(line)),
                 Err(_) => Err(HeadFault::NoMemory),
             },

@@ -1,15 +1,28 @@
 //! The lines of a transcript.
 
-ghost use Rattle.std.specs.Prelude.{◌≡◌, ◌++◌, codes, IfOk};
+ghost use Rattle.std.specs.Prelude.{◌≡◌, ◌++◌, codes, IfOk, OnOk};
 ghost use Rattle.std.specs.Fmt.{decimal};
 ghost use Rattle.std.specs.String.{string_bytes};
 ghost use Rattle.hex.specs.Hex.{encode_lower};
-ghost use Rattle.vrx_core.specs.Machine.{ToDatagram, ToPull};
-ghost use Rattle.vrx_text.specs.Transcript.{reason_text, kind_text, line_feed, what_text, frame_text, pulled_text, text_of, error_line};
+ghost use Rattle.vrx_core.specs.Machine.{ToDatagram, ToTick, ToPull};
+ghost use Rattle.vrx_text.specs.Transcript.{reason_text, kind_text, line_feed, what_text as what_text_of, repaired_line as repaired_line_of, repaired_text, nack_text, pli_text, feedback_text, frame_text, text_of, line_reason_text, error_reason_text, error_line};
 
+use crate::line::LineReason;
 use std::alloc::Global;
 use vrx_core::{Frame, Handled, Pulled, Reason, What};
 use vrx_num::NoMemory;
+use vrx_rtcp::Feedback;
+
+/// Why a capture is read no further than to a line.
+#[derive(Clone, Copy, Debug, PartialEq, Eq)]
+pub enum ErrorReason {
+    /// It is the first line, and it is absent, too long, no settings line, or its settings are refused.
+    Settings,
+    /// It is right, and asks for what isn't done so far.
+    Later,
+    /// It is bad for this reason.
+    Line(LineReason),
+}
 
 /// Whether a frame is a keyframe, in a word.
 fn kind_text(key: bool) -> &'static str
@@ -124,12 +137,11 @@ fn frame_line(alloc: Global, k: u32, frame: &Frame) -> Result<Vec<u8>, NoMemory>
     Ok(text)
 }
 
-/// The line of the reply to the datagram of line `k`.
-#[tactic(auto, unfolding(crate::specs::Transcript::text_of))]
-pub fn text_of_handled(alloc: Global, k: u32, reply: &Handled) -> Result<Vec<u8>, NoMemory>
-    ensures { IfOk result (λ text. text.items ≡ text_of k (ToDatagram reply.now)) }
+/// The line that says what became of a datagram.
+fn what_text(alloc: Global, k: u32, what: What) -> Result<Vec<u8>, NoMemory>
+    ensures { IfOk result (λ text. text.items ≡ what_text_of k what) }
 {
-    match reply.what {
+    match what {
         What::Media(n) => media_text(alloc, k, n),
         What::Fec(n) => fec_text(alloc, k, n),
         What::Empty(n) => empty_text(alloc, k, n),
@@ -138,7 +150,116 @@ pub fn text_of_handled(alloc: Global, k: u32, reply: &Handled) -> Result<Vec<u8>
     }
 }
 
-/// The line of the reply to the pull of line `k`.
+/// The line of a repaired number.
+fn repaired_line(alloc: Global, k: u32, n: u64) -> Result<Vec<u8>, NoMemory>
+    ensures { IfOk result (λ text. text.items ≡ repaired_line_of k n) }
+{
+    Ok(format!(in alloc; "{k} repaired {n}\n")?.into_bytes())
+}
+
+/// Puts the line of each repaired number last.
+fn push_repaired(alloc: Global, k: u32, numbers: &[u64], text: &mut Vec<u8>) -> Result<(), NoMemory>
+    ensures { OnOk result (text.new.items ≡ text.old.items ++ repaired_text k numbers.now) }
+{
+    for n in numbers {
+        let line = repaired_line(alloc, k, *n)?;
+        text.extend_from_slice(line.as_slice())?;
+    }
+    Ok(())
+}
+
+/// The line of a NACK with its octets.
+fn nack_line(alloc: Global, k: u32, octets: &[u8]) -> Result<Vec<u8>, NoMemory>
+    ensures { IfOk result (λ text.
+        text.items ≡ decimal k ++ codes " nack " ++ encode_lower octets.now ++ line_feed) }
+{
+    let digits = hex::encode(alloc, octets)?;
+    Ok(format!(in alloc; "{k} nack {digits}\n")?.into_bytes())
+}
+
+/// The line of a PLI with its octets.
+fn pli_line(alloc: Global, k: u32, octets: &[u8]) -> Result<Vec<u8>, NoMemory>
+    ensures { IfOk result (λ text.
+        text.items ≡ decimal k ++ codes " pli " ++ encode_lower octets.now ++ line_feed) }
+{
+    let digits = hex::encode(alloc, octets)?;
+    Ok(format!(in alloc; "{k} pli {digits}\n")?.into_bytes())
+}
+
+/// Puts the line of the NACK last, if there is one.
+fn push_nack(alloc: Global, k: u32, feedback: &Feedback, text: &mut Vec<u8>) -> Result<(), NoMemory>
+    ensures { OnOk result (text.new.items ≡ text.old.items ++ nack_text k feedback.now.nack) }
+{
+    match &feedback.nack {
+        Some(nack) => {
+            let line = nack_line(alloc, k, nack.as_slice())?;
+            Ok(text.extend_from_slice(line.as_slice())?)
+        }
+        None => Ok(()),
+    }
+}
+
+/// Puts the line of the PLI last, if there is one.
+fn push_pli(alloc: Global, k: u32, feedback: &Feedback, text: &mut Vec<u8>) -> Result<(), NoMemory>
+    ensures { OnOk result (text.new.items ≡ text.old.items ++ pli_text k feedback.now.pli) }
+{
+    match &feedback.pli {
+        Some(pli) => {
+            let line = pli_line(alloc, k, pli)?;
+            Ok(text.extend_from_slice(line.as_slice())?)
+        }
+        None => Ok(()),
+    }
+}
+
+/// Puts the lines of the feedback last.
+fn push_feedback(
+    alloc: Global,
+    k: u32,
+    feedback: &Feedback,
+    text: &mut Vec<u8>,
+) -> Result<(), NoMemory>
+    ensures { OnOk result (text.new.items ≡ text.old.items ++ feedback_text k feedback.now) }
+{
+    push_nack(alloc, k, feedback, text)?;
+    push_pli(alloc, k, feedback, text)
+}
+
+/// The first line of the reply to a tick.
+fn tick_line(alloc: Global, k: u32) -> Result<Vec<u8>, NoMemory>
+    ensures { IfOk result (λ text. text.items ≡ decimal k ++ codes " tick" ++ line_feed) }
+{
+    Ok(format!(in alloc; "{k} tick\n")?.into_bytes())
+}
+
+/// The lines of the reply to the datagram of line `k`: what became of it, each packet that it repaired, in order, and
+/// the feedback, first the NACK and then the PLI.
+///
+/// It fails only for want of memory.
+#[tactic(auto, unfolding(crate::specs::Transcript::text_of))]
+pub fn text_of_handled(alloc: Global, k: u32, reply: &Handled) -> Result<Vec<u8>, NoMemory>
+    ensures { IfOk result (λ text. text.items ≡ text_of k (ToDatagram reply.now)) }
+{
+    let mut text = what_text(alloc, k, reply.what)?;
+    push_repaired(alloc, k, reply.repaired.as_slice(), &mut text)?;
+    push_feedback(alloc, k, &reply.feedback, &mut text)?;
+    Ok(text)
+}
+
+/// The lines of the reply to the tick of line `k`: that it was one, and the feedback, first the NACK and then the
+/// PLI.
+///
+/// It fails only for want of memory.
+#[tactic(auto, unfolding(crate::specs::Transcript::text_of))]
+pub fn text_of_tick(alloc: Global, k: u32, feedback: &Feedback) -> Result<Vec<u8>, NoMemory>
+    ensures { IfOk result (λ text. text.items ≡ text_of k (ToTick feedback.now)) }
+{
+    let mut text = tick_line(alloc, k)?;
+    push_feedback(alloc, k, feedback, &mut text)?;
+    Ok(text)
+}
+
+/// The line of the reply to the pull of line `k`. It fails only for want of memory.
 #[tactic(auto, unfolding(crate::specs::Transcript::text_of))]
 pub fn text_of_pulled(alloc: Global, k: u32, reply: &Pulled) -> Result<Vec<u8>, NoMemory>
     ensures { IfOk result (λ text. text.items ≡ text_of k (ToPull reply.now)) }
@@ -149,9 +270,37 @@ pub fn text_of_pulled(alloc: Global, k: u32, reply: &Pulled) -> Result<Vec<u8>, 
     }
 }
 
-/// The last line of a transcript, where line `k` is bad.
-pub fn text_of_error(alloc: Global, k: u32) -> Result<Vec<u8>, NoMemory>
-    ensures { IfOk result (λ text. text.items ≡ error_line k) }
+/// The word for why a line is bad.
+fn line_reason_text(reason: LineReason) -> &'static str
+    ensures { result.now ≡ line_reason_text reason }
 {
-    Ok(format!(in alloc; "error line {k} form\n")?.into_bytes())
+    match reason {
+        LineReason::Lines => "lines",
+        LineReason::Long => "long",
+        LineReason::Kind => "kind",
+        LineReason::Events => "events",
+        LineReason::Moment => "moment",
+        LineReason::End => "end",
+        LineReason::Hex => "hex",
+    }
+}
+
+/// The word for why a capture is read no further.
+fn error_reason_text(reason: ErrorReason) -> &'static str
+    ensures { result.now ≡ error_reason_text reason }
+{
+    match reason {
+        ErrorReason::Settings => "settings",
+        ErrorReason::Later => "later",
+        ErrorReason::Line(reason) => line_reason_text(reason),
+    }
+}
+
+/// The last line of a transcript, where line `k` is bad for this reason. It fails only for want of memory.
+#[tactic(auto, unfolding(crate::specs::Transcript::error_line))]
+pub fn text_of_error(alloc: Global, k: u32, reason: ErrorReason) -> Result<Vec<u8>, NoMemory>
+    ensures { IfOk result (λ text. text.items ≡ error_line k reason) }
+{
+    let word = error_reason_text(reason);
+    Ok(format!(in alloc; "error line {k} {word}\n")?.into_bytes())
 }

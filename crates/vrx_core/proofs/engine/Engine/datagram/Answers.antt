@@ -1,6 +1,9 @@
-use Rattle.std.proofs.Common.{ℕ, List, refl, ap, ◌∙◌}
+use Rattle.std.proofs.Common.{ℕ, ◌<◌, List, refl, ap, ◌∙◌}
+use Rattle.std.proofs.Math.Facts.{Fits-lt-pow}
+use Rattle.std.proofs.lemmas.List.Elements.{All-from_get_or}
 use Rattle.vrx_core.specs.Machine.{Reply, ToDatagram, no_feedback}
 use Rattle.vrx_core.specs.declared.reply.What.{What}
+use Rattle.vrx_core.proofs.ReasonLemmas.{answers_mean, newest-beyond}
 use Rattle.vrx_core.proofs.StandsLemmas.{datagram-stands, datagram-reply, datagram-refused, datagram-settings, datagram-counts}
 use Rattle.vrx_core.proofs.engine.Engine.datagram.Goals as goal
 
@@ -25,3 +28,6 @@ returns-clause-what c = c.in_ok-what.ensures.value.answer
 
 pub returns-clause-counts : goal.returns-clause-counts
 returns-clause-counts c = datagram-counts c.args.self.now c.handle.new.self c.args.moment c.args.bytes.now c.in_ok-what.what c.in_ok-what.ensures.value
+
+pub returns-clause-exactly : goal.returns-clause-exactly
+returns-clause-exactly c what = answers_mean c.reasons_mean.ensures c.args.self.now.settings c.args.self.now.newest c.args.self.now.packets c.args.bytes.now (All-from_get_or (λ octet. octet < 256) c.args.bytes.now 0 (λ i within. Fits-lt-pow (c.type_inv.bytes i))) (newest-beyond c.args.self.now c.in_ok-what.ensures.sound) c.in_ok-what.what c.in_ok-what.ensures.value.answer what

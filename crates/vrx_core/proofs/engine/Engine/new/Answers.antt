@@ -1,6 +1,6 @@
 use Rattle.std.proofs.Common.{sym, ◌∙◌}
 use Rattle.vrx_core.specs.declared.settings.NewFault.TheVariants.{BadType, SameType, SameSsrc, RedMissing, BadInterval, Later}
-use Rattle.vrx_core.proofs.SettingsLemmas.{fault-bad_type, fault-same_type, fault-same_ssrc, fault-red_missing, fault-bad_interval, fault-later, told-fault, told-none}
+use Rattle.vrx_core.proofs.SettingsLemmas.{fault-bad_type, fault-same_type, fault-same_ssrc, fault-red_missing, fault-bad_interval, fault-later, told-fault, told-none, never-fault}
 use Rattle.vrx_core.proofs.engine.Engine.new.Goals as goal
 
 pub returns-in-Some-clause-bad_type : goal.returns-in-Some-clause-bad_type
@@ -38,3 +38,6 @@ returns-in-Some-clause-later c = told-fault c.args.settings c.in-Some.fault Late
 
 pub returns-in-None-clause-later : goal.returns-in-None-clause-later
 returns-in-None-clause-later c = told-none c.args.settings c.opened.result Later (sym c.fault_of.ensures ∙ c.in-None.is) c.opened.ensures.no_memory (λ e. cc) (fault-later c.args.settings)
+
+pub returns-in-Some-clause-no_memory : goal.returns-in-Some-clause-no_memory
+returns-in-Some-clause-no_memory c memory = absurd (never-fault c.args.settings c.in-Some.fault (sym c.fault_of.ensures ∙ c.in-Some.is) memory)

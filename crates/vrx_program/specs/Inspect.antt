@@ -1,0 +1,67 @@
+-- What an inspection of a capture gives: a status and a text.
+use Rattle.std.specs.Prelude.{ℕ, Bool, true, false, nat_lt, if◌then◌else◌, List, [], ◌∷◌, ◌++◌, length, Option, Some, None}
+use Rattle.std.specs.Option.{option_map}
+use Rattle.vrx_core.specs.SettingsFault.{fault_of}
+use Rattle.vrx_core.specs.declared.settings.Settings.{Settings}
+use Rattle.vrx_core.specs.declared.settings.NewFault.{NewFault}
+use Rattle.vrx_core.specs.declared.settings.NewFault.TheVariants as faults
+use Rattle.vrx_core.specs.declared.event.Event.{Event}
+use Rattle.vrx_core.specs.declared.event.Event.TheVariants.{Datagram, Tick, Pull}
+use Rattle.vrx_text.specs.Line.{lines_of, longest_line}
+use Rattle.vrx_text.specs.Reading.{Reading, reading}
+use Rattle.vrx_text.specs.SettingsLine.{settings_in}
+use Rattle.vrx_text.specs.Inspection.{inspection}
+use Rattle.vrx_text.specs.declared.line.LineReason.{LineReason}
+use Rattle.vrx_text.specs.declared.settings_line.CodecName.{CodecName}
+use Rattle.vrx_text.specs.declared.transcript.ErrorReason.{ErrorReason}
+use Rattle.vrx_text.specs.declared.transcript.ErrorReason.TheVariants as errors
+use Rattle.vrx_program.specs.Outcome.{Outcome, refused, status_of, error_text}
+use Rattle.vrx_program.specs.Replay.{most_events}
+
+-- settings without a fault are right, whatever the codec; and so are those whose only fault is that a replay doesn't take
+-- them so far
+abbrev pub is_right : Option NewFault → Bool
+is_right None = true
+is_right (Some faults.Later) = true
+is_right (Some fault) = false
+
+abbrev pub tells_right : Option (CodecName × Settings) → Bool
+tells_right None = false
+tells_right (Some (codec, settings)) = is_right (fault_of settings)
+
+-- a settings line is right
+unfoldable pub is_head : List ℕ → Bool
+is_head line = if nat_lt longest_line (length line) then false else tells_right (settings_in line)
+
+-- the text of an event: of a datagram what it is; ticks and pulls give none
+abbrev pub inspected_event : ℕ → Event → List ℕ
+inspected_event k (Datagram moment octets) = inspection k octets
+inspected_event k (Tick moment) = []
+inspected_event k (Pull moment) = []
+
+-- the text of events, in order, each with the number of its line
+unfoldable pub inspections : List (ℕ × Event) → List ℕ
+inspections [] = []
+inspections ((k, event) ∷ lines) = inspected_event k event ++ inspections lines
+
+-- a bad line, with its reason
+abbrev pub bad_line : ℕ × LineReason → ℕ × ErrorReason
+bad_line (k, reason) = (k, errors.Line reason)
+
+-- what the inspection of lines gives that give this reading
+abbrev pub inspected_reading : Reading → Outcome
+inspected_reading r = let bad : Option (ℕ × ErrorReason) = option_map bad_line r.bad in record { status = status_of bad; told = inspections r.events; last = error_text bad }
+
+-- what the inspection of a first line, which is right or refused, and of the others gives
+abbrev pub inspected_from : Bool → List (List ℕ) → Outcome
+inspected_from true lines = inspected_reading (reading most_events 2 0 lines)
+inspected_from false lines = refused errors.Settings
+
+-- what the inspection of these lines gives: an absent first line tells no settings
+abbrev pub inspected_lines : List (List ℕ) → Outcome
+inspected_lines [] = refused errors.Settings
+inspected_lines (line ∷ lines) = inspected_from (is_head line) lines
+
+-- what the inspection of a capture gives
+abbrev pub inspected : List ℕ → Outcome
+inspected capture = inspected_lines (lines_of capture)

@@ -1,0 +1,10 @@
+use Rattle.std.proofs.Common.{rules}
+use Rattle.vrx_text.proofs.AheadLemmas.{tells_still}
+use Rattle.vrx_text.proofs.ReaderLemmas.{next_bad}
+use Rattle.vrx_text.proofs.lines.Lines.next.Goals as goal
+
+pub returns-in-Some-clause-next : goal.returns-in-Some-clause-next
+returns-in-Some-clause-next g c = next_bad c.args.self.now (g.S.Source.left c.args.source.now) c.in-Some.k c.in-Some.reason (search rules)
+
+pub returns-in-None-clause-tells : goal.returns-in-None-clause-tells
+returns-in-None-clause-tells g c = let passes = c.next_on.ensures.next.0 in tells_still passes.read (g.S.Source.left c.args.source.now) (g.S.Source.left c.next_on.new.source) passes.source
