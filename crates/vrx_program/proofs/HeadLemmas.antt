@@ -1,6 +1,6 @@
 -- How a run begins and ends by its first line, whatever it gives of captures.
 use Rattle.std.proofs.Common.{◌≡◌, ◌⊎◌, ◌≤◌, ℕ, length, true, false, List, [], ◌∷◌, ◌++◌, sym, ap, subst, ◌∙◌, inl, inr, refl, arith}
-use Rattle.std.specs.Prelude.{Option, Some, None, IfSome}
+use Rattle.std.specs.Prelude.{Option, Some, None}
 use Rattle.vrx_io.specs.Source.{IsSpent}
 use Rattle.vrx_io.specs.Sink.{extended}
 use Rattle.vrx_text.specs.Line.{lines_of, longest_line}

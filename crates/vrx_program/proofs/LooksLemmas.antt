@@ -1,26 +1,24 @@
 -- What each event of an inspection adds, and how an inspection ends.
-use Rattle.std.proofs.Common.{◌≡◌, ◌⊎◌, ℕ, ◌<◌, ◌≤◌, cond, true, false, List, [], ◌∷◌, ◌++◌, length, take, refl, sym, ap, subst, ◌∙◌, inl, inr, append_assoc, append-nil, arith}
-use Rattle.std.specs.Prelude.{Option, Some, None, Ok, IfSome, MatchOption}
+use Rattle.std.proofs.Common.{◌≡◌, ℕ, ◌<◌, ◌≤◌, cond, true, false, List, [], ◌∷◌, ◌++◌, length, refl, sym, ap, subst, ◌∙◌, inr, append_assoc, append-nil, arith}
+use Rattle.std.specs.Prelude.{Option, Some, None, Ok, MatchOption}
 use Rattle.std.specs.Option.{option_map}
 use Rattle.std.proofs.lemmas.Bool.{lt-ltb, le-ltb}
-use Rattle.vrx_io.specs.Source.{IsSpent}
 use Rattle.vrx_io.specs.Sink.{extended}
 use Rattle.vrx_core.specs.declared.event.Event.{Event}
 use Rattle.vrx_text.specs.Line.{lines_of, longest_line}
 use Rattle.vrx_text.specs.SettingsLine.{settings_in}
-use Rattle.vrx_text.specs.Reading.{Reading, sound, bad_at, reading}
+use Rattle.vrx_text.specs.Reading.{Reading, sound, reading}
 use Rattle.vrx_text.specs.Reader.{Reader, HasNoHead, says, Passes, IsNext, AllSayBad, HasNoFeed}
 use Rattle.vrx_text.specs.Joins.{LinesJoin, ReadingsJoin, behind_events}
 use Rattle.vrx_text.specs.Transcript.{error_line}
 use Rattle.vrx_text.specs.declared.line.LineReason.{LineReason}
 use Rattle.vrx_text.specs.declared.lines.Line.TheVariants as lines
-use Rattle.vrx_text.specs.declared.transcript.ErrorReason.{ErrorReason}
 use Rattle.vrx_text.specs.declared.transcript.ErrorReason.TheVariants as errors
 use Rattle.vrx_program.specs.HasRead.{HasRead}
-use Rattle.vrx_program.specs.Outcome.{Outcome, text_of_outcome, status_of, error_text, refused}
+use Rattle.vrx_program.specs.Outcome.{Outcome, text_of_outcome, error_text, refused}
 use Rattle.vrx_program.specs.Replay.{most_events}
 use Rattle.vrx_program.specs.Inspect.{tells_right, is_head, inspected_event, inspections, bad_line, inspected_reading, inspected_from, inspected_lines, inspected}
-use Rattle.vrx_program.specs.Ends.{TookFront, Ends, EndsOver, EndsBadly, EndsAmid}
+use Rattle.vrx_program.specs.Ends.{TookFront, EndsOver, EndsBadly, EndsAmid}
 use Rattle.vrx_program.specs.Looks.{Looks, IsLookedAt}
 use Rattle.vrx_program.specs.declared.status.Status.{Status}
 use Rattle.vrx_program.specs.declared.status.Status.TheVariants as statuses

@@ -1,10 +1,8 @@
 -- What each event of a replay adds, and how a replay ends.
-use Rattle.std.proofs.Common.{◌≡◌, ◌≢◌, ◌⊎◌, ℕ, zero, suc, ◌+◌, ◌<◌, ◌≤◌, cond, true, false, List, [], ◌∷◌, ◌++◌, length, take, refl, sym, ap, subst, ◌∙◌, inl, inr, append_assoc, append-nil, arith}
-use Rattle.std.specs.Prelude.{Option, Some, None, Result, Ok, Err, IfSome, IfNone, MatchOption}
-use Rattle.std.proofs.lemmas.List.{length-append, take-append-le}
+use Rattle.std.proofs.Common.{◌≡◌, ℕ, ◌<◌, ◌≤◌, cond, true, false, List, [], ◌∷◌, ◌++◌, length, refl, sym, ap, subst, ◌∙◌, inr, append_assoc, append-nil, arith}
+use Rattle.std.specs.Prelude.{Option, Some, None, Ok, Err, MatchOption}
 use Rattle.std.proofs.lemmas.Bool.{lt-ltb, le-ltb}
-use Rattle.std.proofs.lemmas.Option.{same_Some, none-some}
-use Rattle.vrx_io.specs.Source.{IsSpent}
+use Rattle.std.proofs.lemmas.Option.{none-some}
 use Rattle.vrx_io.specs.Sink.{extended, TakesPart}
 use Rattle.vrx_vp8.specs.Descriptor.{vp8}
 use Rattle.vrx_core.specs.Machine.{reply}
@@ -15,7 +13,6 @@ use Rattle.vrx_core.specs.declared.event.Event.TheVariants.{Datagram, Tick, Pull
 use Rattle.vrx_text.specs.Line.{lines_of, longest_line}
 use Rattle.vrx_text.specs.SettingsLine.{settings_in}
 use Rattle.vrx_text.specs.Reading.{Reading, sound, bad_at, reading}
-use Rattle.vrx_text.specs.Ahead.{ahead}
 use Rattle.vrx_text.specs.Reader.{Reader, HasNoHead, says, Passes, IsNext, AllSayBad, HasNoFeed}
 use Rattle.vrx_text.specs.Joins.{LinesJoin, ReadingsJoin, behind_events}
 use Rattle.vrx_text.specs.Transcript.{text_of, transcript, error_line}
@@ -25,8 +22,8 @@ use Rattle.vrx_text.specs.declared.transcript.ErrorReason.{ErrorReason}
 use Rattle.vrx_text.specs.declared.transcript.ErrorReason.TheVariants as errors
 use Rattle.vrx_program.specs.HasRead.{HasRead}
 use Rattle.vrx_program.specs.Outcome.{Outcome, text_of_outcome, status_of, error_text, refused}
-use Rattle.vrx_program.specs.Replay.{settings_of, accepted, most_events, before_tick, first_tick, first_refused, call_with, call_from, call_in, call_of, outcome_of, replayed}
-use Rattle.vrx_program.specs.Ends.{TookFront, TookLines, Ends, EndsOver, EndsBadly, EndsAmid}
+use Rattle.vrx_program.specs.Replay.{settings_of, accepted, most_events, before_tick, first_tick, first_refused, call_with, call_from, call_in, outcome_of, replayed}
+use Rattle.vrx_program.specs.Ends.{TookFront, EndsOver, EndsBadly, EndsAmid}
 use Rattle.vrx_program.specs.Plays.{history_after, IsAnswered, Happens, Plays}
 use Rattle.vrx_program.specs.declared.status.Status.{Status}
 use Rattle.vrx_program.specs.declared.status.Status.TheVariants as statuses

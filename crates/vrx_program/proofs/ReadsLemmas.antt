@@ -1,15 +1,15 @@
 -- What was read so far of a capture, behind its first line, and what each call of the reader adds.
-use Rattle.std.proofs.Common.{◌≡◌, ◌⊎◌, ℕ, ◌+◌, ◌≤◌, Bool, true, false, List, [], ◌∷◌, ◌++◌, length, refl, sym, ap, subst, ◌∙◌, inl, inr, append_assoc, append-nil, arith}
-use Rattle.std.specs.Prelude.{Option, Some, None, Ok, Err}
+use Rattle.std.proofs.Common.{◌≡◌, ◌⊎◌, ℕ, ◌+◌, true, false, List, [], ◌∷◌, ◌++◌, length, refl, sym, ap, subst, ◌∙◌, inl, inr, append_assoc, append-nil, arith}
+use Rattle.std.specs.Prelude.{Option, Some, None}
 use Rattle.std.specs.Option.{option_map}
 use Rattle.std.proofs.lemmas.List.{length-append}
 use Rattle.std.proofs.lemmas.Option.{same_Some, none-some}
 use Rattle.vrx_io.specs.Source.{IsSpent}
 use Rattle.vrx_core.specs.declared.event.Event.{Event}
-use Rattle.vrx_text.specs.Line.{lines_of, longest_line, most_lines}
+use Rattle.vrx_text.specs.Line.{lines_of}
 use Rattle.vrx_text.specs.Reading.{Reading, sound, bad_at, reading}
 use Rattle.vrx_text.specs.Ahead.{ahead}
-use Rattle.vrx_text.specs.Reader.{Reader, opening, says, AreWhole, HasNoFeed, MayFollow, Passes, AllSayBad, HasNoHead}
+use Rattle.vrx_text.specs.Reader.{Reader, opening, says, AreWhole, MayFollow, Passes, AllSayBad}
 use Rattle.vrx_program.specs.HasRead.{HasRead}
 use Rattle.vrx_text.specs.Joins.{LinesJoin, ReadingsJoin, behind_events}
 use Rattle.vrx_text.specs.declared.line.LineReason.{LineReason}

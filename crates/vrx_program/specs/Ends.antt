@@ -25,8 +25,8 @@ pub record TookLines (outcome : List ℕ → Outcome) (capture : List ℕ) (befo
   pub short : length part ≤ longest_line
   pub took : after ≡ extended before (outcome lines).told
 
--- how a run over a capture ends, which gives this outcome of each capture: what the sink took before and after it, and what
--- the source has left
+-- how a run over a capture ends, which gives this outcome of each capture: what the sink took before and after it,
+-- and what the source has left
 abbrev pub Ends : (List ℕ → Outcome) → Status → List ℕ → Option (List ℕ) → Option (List ℕ) → Option (List ℕ) → Type 0
 -- no line is refused: the sink took exactly the text, and the source has nothing left
 Ends outcome statuses.Done capture before after left = ((outcome capture).status ≡ statuses.Done) × (after ≡ extended before (text_of_outcome (outcome capture))) × (left ≡ Some [])

@@ -38,10 +38,10 @@ replies_of call = replies call.settings vp8 [] (events_of call)
 abbrev pub call_text : Call → List ℕ
 call_text call = lines_text call.events (replies_of call) ++ error_text call.bad
 
--- what the sink took in a replay that ended so is the lines of the machine's replies, and these are an honest call: at
--- its pulls the sender's frames, byte for byte, in order, each at most once, from a keyframe on, after all their
--- references, and notready exactly where no frame is ready. It took all of the text where the run was Done or met a bad
--- line, else a part from the front
+-- what the sink took in a replay that ended so is the lines of the machine's replies, and these are an honest call:
+-- at its pulls the sender's frames, byte for byte, in order, each at most once, from a keyframe on, after all their
+-- references, and notready exactly where no frame is ready. It took all of the text where the run was Done or met a
+-- bad line, else a part from the front
 pub record HonestLines (capture : List ℕ) (sender : Sender) (origins : List Origin) (status : Status) (before after : Option (List ℕ)) : Type 0 where
   pub call : Call
   pub told : call_of capture ≡ Ok call

@@ -18,8 +18,8 @@ use Rattle.vrx_text.specs.declared.transcript.ErrorReason.TheVariants as errors
 use Rattle.vrx_program.specs.Outcome.{Outcome, refused, status_of, error_text}
 use Rattle.vrx_program.specs.Replay.{most_events}
 
--- settings without a fault are right, whatever the codec; and so are those whose only fault is that a replay doesn't take
--- them so far
+-- settings without a fault are right, whatever the codec; and so are those whose only fault is that a replay doesn't
+-- take them so far
 abbrev pub is_right : Option NewFault → Bool
 is_right None = true
 is_right (Some faults.Later) = true

@@ -9,7 +9,8 @@ use Rattle.vrx_program.specs.Inspect.{is_head, inspected_event, inspections}
 use Rattle.vrx_program.specs.Ends.{EndsAmid}
 use Rattle.vrx_program.specs.declared.status.Status.{Status}
 
--- an inspection that began over this source and sink: the first line is right, and the sink took the text of the lines read
+-- an inspection that began over this source and sink: the first line is right, and the sink took the text of the
+-- lines read
 pub record Looks (source sink : Option (List ℕ)) (reader : Reader) (left taken : Option (List ℕ)) : Type 0 where
   pub first : List ℕ
   pub right : is_head first ≡ true

@@ -1,9 +1,8 @@
 -- A replay in the middle.
-use Rattle.std.specs.Prelude.{◌≡◌, ℕ, List, [], ◌∷◌, Option, Some, None, Result, Ok}
+use Rattle.std.specs.Prelude.{◌≡◌, ℕ, List, [], ◌∷◌, Option, Some, None, Ok}
 use Rattle.vrx_io.specs.Sink.{extended}
 use Rattle.vrx_vp8.specs.Descriptor.{vp8}
 use Rattle.vrx_core.specs.StandsFor.{Parts, StandsFor}
-use Rattle.vrx_core.specs.declared.settings.Settings.{Settings}
 use Rattle.vrx_core.specs.Machine.{reply}
 use Rattle.vrx_core.specs.declared.event.Event.{Event}
 use Rattle.vrx_core.specs.declared.event.Event.TheVariants.{Tick}
@@ -24,8 +23,8 @@ abbrev pub history_after : List Event → List (ℕ × Event) → List Event
 history_after h [] = h
 history_after h ((k, event) ∷ lines) = history_after (event ∷ h) lines
 
--- a replay that began over this source and sink: the first line told its settings, the engine stands for the events of the
--- lines read, and the sink took their text
+-- a replay that began over this source and sink: the first line told its settings, the engine stands for the events
+-- of the lines read, and the sink took their text
 pub record Plays (source sink : Option (List ℕ)) (engine : Parts) (reader : Reader) (left taken : Option (List ℕ)) : Type 0 where
   pub first : List ℕ
   pub settings : settings_of first ≡ Ok engine.settings
@@ -35,15 +34,15 @@ pub record Plays (source sink : Option (List ℕ)) (engine : Parts) (reader : Re
   pub stands : StandsFor vp8 engine (history_after [] events)
   pub wrote : taken ≡ extended sink (transcript engine.settings vp8 [] events)
 
--- the text of the reply to an event of line k that comes after a history; the engine stands for the history with it. A tick
--- isn't taken so far, and has no text
+-- the text of the reply to an event of line k that comes after a history; the engine stands for the history with it.
+-- A tick isn't taken so far, and has no text
 abbrev pub IsAnswered : Parts → Parts → List Event → ℕ → Event → Option (List ℕ) → Type 0
 IsAnswered old new h k (Tick moment) text = text ≡ None
 IsAnswered old new h k event None = ⊥
 IsAnswered old new h k event (Some text) = StandsFor vp8 new (event ∷ h) × (text ≡ text_of k (reply old.settings vp8 h event))
 
--- what becomes of a run at an event of line k that comes after a history: the engine stands for the history with it, and the
--- sink took its text; or the run ends in the text, and at a tick in the error line
+-- what becomes of a run at an event of line k that comes after a history: the engine stands for the history with it,
+-- and the sink took its text; or the run ends in the text, and at a tick in the error line
 abbrev pub Happens : Parts → Parts → List Event → ℕ → Event → Option Status → Option (List ℕ) → Option (List ℕ) → Type 0
 Happens old new h k (Tick moment) None before after = ⊥
 Happens old new h k (Tick moment) (Some status) before after = EndsBadly status (error_line k Later) before after

@@ -1,16 +1,16 @@
 -- What a replay of a capture gives: a status and a text.
-use Rattle.std.specs.Prelude.{ℕ, Bool, nat_lt, if◌then◌else◌, List, [], ◌∷◌, ◌++◌, length, Option, Some, None, Result, Ok, Err}
+use Rattle.std.specs.Prelude.{ℕ, nat_lt, if◌then◌else◌, List, [], ◌∷◌, length, Option, Some, None, Result, Ok, Err}
 use Rattle.vrx_vp8.specs.Descriptor.{vp8}
 use Rattle.vrx_core.specs.SettingsFault.{fault_of}
 use Rattle.vrx_core.specs.declared.settings.Settings.{Settings}
 use Rattle.vrx_core.specs.declared.settings.NewFault.{NewFault}
 use Rattle.vrx_core.specs.declared.settings.NewFault.TheVariants as faults
 use Rattle.vrx_core.specs.declared.event.Event.{Event}
-use Rattle.vrx_core.specs.declared.event.Event.TheVariants.{Datagram, Tick, Pull}
+use Rattle.vrx_core.specs.declared.event.Event.TheVariants.{Tick}
 use Rattle.vrx_text.specs.Line.{lines_of, longest_line}
 use Rattle.vrx_text.specs.Reading.{Reading, reading}
 use Rattle.vrx_text.specs.SettingsLine.{settings_in}
-use Rattle.vrx_text.specs.Transcript.{transcript, error_line}
+use Rattle.vrx_text.specs.Transcript.{transcript}
 use Rattle.vrx_text.specs.declared.line.LineReason.{LineReason}
 use Rattle.vrx_text.specs.declared.settings_line.CodecName.{CodecName}
 use Rattle.vrx_text.specs.declared.settings_line.CodecName.TheVariants.{Vp8, H264}
@@ -22,8 +22,8 @@ use Rattle.vrx_program.specs.Outcome.{Outcome, refused, status_of, error_text}
 abbrev pub most_events : ℕ
 most_events = 1048576
 
--- settings with this codec and this fault, if any: the fault is the line's; but RED, retransmissions and H.264 are right,
--- and not taken so far
+-- settings with this codec and this fault, if any: the fault is the line's; but RED, retransmissions and H.264 are
+-- right, and not taken so far
 abbrev pub taken : CodecName → Settings → Option NewFault → Result Settings ErrorReason
 taken codec settings (Some faults.Later) = Err errors.Later
 taken codec settings (Some fault) = Err errors.Settings
@@ -39,8 +39,8 @@ accepted (Some (codec, settings)) = taken codec settings (fault_of settings)
 unfoldable pub settings_of : List ℕ → Result Settings ErrorReason
 settings_of line = if nat_lt longest_line (length line) then Err errors.Settings else accepted (settings_in line)
 
--- a call, as a capture tells it: its settings, its events in order, each with the number of its line, up to the first line
--- that is refused; and that line with the reason, where there is one
+-- a call, as a capture tells it: its settings, its events in order, each with the number of its line, up to the first
+-- line that is refused; and that line with the reason, where there is one
 pub record Call : Type 0 where
   pub settings : Settings
   pub events : List (ℕ × Event)

@@ -33,8 +33,8 @@ use vrx_core::honest_call;
 use vrx_io::{Sink, Source, StdSink, StdSource};
 use vrx_text::lines_join;
 
-/// Runs the program: `replay` reads a capture from the source and writes its transcript to the sink, and `inspect` writes
-/// what each of its datagrams is.
+/// Runs the program: `replay` reads a capture from the source and writes its transcript to the sink, and `inspect`
+/// writes what each of its datagrams is.
 ///
 /// What the clauses say of content, they say where the source tells its bytes. What the sink took is what it took in
 /// this call.
@@ -49,8 +49,8 @@ pub fn run<S: Source, K: Sink>(
     ensures untouched { result ≡ Status.BadUsage →
         (source.new ≡ source.old) × (sink.new ≡ sink.old) }
 
-    // The status and the text are those that the word gives of the capture: all of the text on Done and BadCapture, that of
-    // the whole lines read on ReadFault, and a part from its front else.
+    // The status and the text are those that the word gives of the capture: all of the text on Done and BadCapture,
+    // that of the whole lines read on ReadFault, and a part from its front else.
     ensures outcome { (word : Word) → IsWord word (map string_bytes words.now) → IfSome (S.left source.old) (λ capture.
         Ends (gives word) result capture (K.taken sink.old) (K.taken sink.new) (S.left source.new)) }
 

@@ -222,8 +222,8 @@ const RUNS: [(&str, &str, &str); 30] = [
         "d 0 80600001000000000000000a7800aa\nd 0 80e00002000000000000000a68bb\np 0\n",
         "2 media 65537\n3 media 65538\n4 frame 65537 65538 key 0 00aabb\n",
     ),
-    // S = 1 and PID = 0: 2 is a start, whatever is behind. 1 to 2 and 1 to 3 have two starts, and 2 to 3 two markers. 2
-    // alone is a run, but a delta frame, and nothing was pulled.
+    // S = 1 and PID = 0: 2 is a start, whatever is behind. 1 to 2 and 1 to 3 have two starts, and 2 to 3 two markers.
+    // 2 alone is a run, but a delta frame, and nothing was pulled.
     (
         "the start of a delta frame in the middle",
         "d 0 80600001000000000000000a1000aa\nd 0 80e00002000000000000000a1001bb\nd 0 80e00003000000000000000a00cc\nd 0 80600002000000000000000a1001bb\np 0\n",
@@ -339,8 +339,8 @@ fn runs_are_handed_out(rt: HostRuntime) -> Result<(), Fail> {
     Ok(())
 }
 
-/// Calls with delta frames: the name of the case, the lines behind the settings, and the transcript. In the comments, 1
-/// is 65537, and so on.
+/// Calls with delta frames: the name of the case, the lines behind the settings, and the transcript. In the comments,
+/// 1 is 65537, and so on.
 const DELTAS: [(&str, &str, &str); 26] = [
     // Each follows the one before it; 131072 is missing at the third pull, and 131073 doesn't follow 131071.
     (
@@ -562,8 +562,8 @@ fn one_number_is_taken_once(rt: HostRuntime) -> Result<(), Fail> {
     Ok(())
 }
 
-// Half of the space away from the newest there is no number. Had a jump moved the newest, the next packet would be too
-// old.
+// Half of the space away from the newest there is no number. Had a jump moved the newest, the next packet would be
+// too old.
 #[test]
 fn jumps_of_half_the_numbers_move_nothing(rt: HostRuntime) -> Result<(), Fail> {
     let mut lines = String::new(rt.alloc());

@@ -4,8 +4,8 @@ use crate::Status;
 use crate::tests::{HEAD, outcome};
 use std::test::Fail;
 
-/// Datagrams of the media SSRC 10 and type 96, unless a comment says otherwise, and the replies to them: the name of the
-/// case, the lines behind the settings, and the transcript.
+/// Datagrams of the media SSRC 10 and type 96, unless a comment says otherwise, and the replies to them: the name of
+/// the case, the lines behind the settings, and the transcript.
 const KINDS: [(&str, &str, &str); 12] = [
     // 4 octets of padding, and 1. The same packet without padding is a repeat, and the frame has none of it.
     (
@@ -44,14 +44,15 @@ const KINDS: [(&str, &str, &str); 12] = [
         "d 0 80c90001000000\nd 0 80c9\nd 0 40c900010000000b\nd 0 81c900010000000b\nd 0 80c900010000000b80c90001000000\n",
         "2 drop BadRtcp\n3 drop BadRtcp\n4 drop BadRtcp\n5 drop BadRtcp\n6 drop BadRtcp\n",
     ),
-    // One octet, and 11 of the header's 12; the second octets 191 and 224, which aren't RTCP's; the versions 0, 1 and 3.
+    // One octet, and 11 of the header's 12; the second octets 191 and 224, which aren't RTCP's; the versions 0, 1 and
+    // 3.
     (
         "NotRtp",
         "d 0 80\nd 0 80e0000100000000000000\nd 0 80bf0000\nd 0 80e00000\nd 0 00e00001000000000000000a1000aa\nd 0 40e00001000000000000000a1000aa\nd 0 c0e00001000000000000000a1000aa\n",
         "2 drop NotRtp\n3 drop NotRtp\n4 drop NotRtp\n5 drop NotRtp\n6 drop NotRtp\n7 drop NotRtp\n8 drop NotRtp\n",
     ),
-    // A contributing source of three octets; an extension of three, and of one word that isn't there; padding of none,
-    // and of four octets where three follow the header.
+    // A contributing source of three octets; an extension of three, and of one word that isn't there; padding of
+    // none, and of four octets where three follow the header.
     (
         "BadHeader",
         "d 0 81e00001000000000000000a1000aa\nd 0 90e00001000000000000000a1000aa\nd 0 90e00001000000000000000abede0001\nd 0 a0e00001000000000000000a100000\nd 0 a0e00001000000000000000a100004\n",
@@ -96,8 +97,8 @@ fn datagrams_are_told_apart(rt: HostRuntime) -> Result<(), Fail> {
     Ok(())
 }
 
-// An RTCP packet of the type 192 has four octets, and four more for each that its length counts: 2,303 make 9,216 octets,
-// and 2,304 make 9,220. The limit counts before all that is in a datagram.
+// An RTCP packet of the type 192 has four octets, and four more for each that its length counts: 2,303 make 9,216
+// octets, and 2,304 make 9,220. The limit counts before all that is in a datagram.
 #[test]
 fn rtcp_has_at_most_9216_octets(rt: HostRuntime) -> Result<(), Fail> {
     let mut octets = String::new(rt.alloc());

@@ -73,8 +73,8 @@ fn told_of_all(alloc: Global, word: &str) -> Result<Vec<u8>, Fail> {
     Ok(text)
 }
 
-// Behind read 35, which gives the last octets, read 36 finds the end. It fails behind a last line that is in hand, but
-// whose end isn't known. There is no read 37.
+// Behind read 35, which gives the last octets, read 36 finds the end. It fails behind a last line that is in hand,
+// but whose end isn't known. There is no read 37.
 #[test]
 fn a_failed_read_leaves_the_text_of_the_whole_lines(rt: HostRuntime) -> Result<(), Fail> {
     for word in ["replay", "inspect"] {

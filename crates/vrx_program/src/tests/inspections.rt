@@ -23,14 +23,14 @@ const LOOKS: [(&str, &str); 7] = [
         "t 1\nd 1 80e400040000177000000010\n\nd 0 80e400040000177000000010\np 2\nd 0 80e00004000000000000000a90",
         "3 rtp pt=100 seq=4 ts=6000 ssrc=00000010 m=1 csrc=0 ext=- pad=0 payload=0\n5 rtp pt=100 seq=4 ts=6000 ssrc=00000010 m=1 csrc=0 ext=- pad=0 payload=0\n7 rtp pt=96 seq=4 ts=0 ssrc=0000000a m=1 csrc=0 ext=- pad=0 payload=1\n",
     ),
-    // b2: P, X and two contributing sources; the extension has one word; three octets of padding. 90: an extension of no
-    // words.
+    // b2: P, X and two contributing sources; the extension has one word; three octets of padding. 90: an extension of
+    // no words.
     (
         "d 0 b2e0ffffffffffff0000000a0000000100000002bede000151aa00001001cc000003\nd 0 9060000200000bb80000000abede00001001bb\n",
         "2 rtp pt=96 seq=65535 ts=4294967295 ssrc=0000000a m=1 csrc=2 ext=1 pad=3 payload=3\n3 rtp pt=96 seq=2 ts=3000 ssrc=0000000a m=0 csrc=0 ext=0 pad=0 payload=3\n",
     ),
-    // A compound of a sender report without blocks, a source description and a picture loss indication; a report that is
-    // cut short behind another; padding of no octets; and another version.
+    // A compound of a sender report without blocks, a source description and a picture loss indication; a report that
+    // is cut short behind another; padding of no octets; and another version.
     (
         "d 0 80c800060000000ae123456780000000000003e8000000050000138881ca00030000000a010361406200000081ce00020000000b0000000a\nd 0 80c900010000000b80c90001000000\nd 0 a0e00001000000000000000a100000\nd 0 40e00001000000000000000a\n",
         "2 rtcp sr other202 pli\n3 bad rtcp PastEnd 8\n4 bad rtp PaddingPastEnd 14\n5 bad rtp Version 0\n",

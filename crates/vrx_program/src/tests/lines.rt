@@ -210,8 +210,8 @@ fn given(
     outcome_in(alloc, word, head, lines, pipes)
 }
 
-/// The status and the text where line k was judged so: behind the text of the lines before it stands the error line, or
-/// that of the lines behind it.
+/// The status and the text where line k was judged so: behind the text of the lines before it stands the error line,
+/// or that of the lines behind it.
 fn wanted(
     alloc: Global,
     verdict: Verdict,
@@ -240,8 +240,8 @@ fn wanted(
     }
 }
 
-/// Whether a word gives this status and text of a first line with a datagram behind it, read in pieces of 1 octet and of
-/// 100.
+/// Whether a word gives this status and text of a first line with a datagram behind it, read in pieces of 1 octet and
+/// of 100.
 fn first_gives(
     alloc: Global,
     word: &str,
@@ -438,9 +438,9 @@ fn octets_give(
 const OCTETS_80: &str =
     "2 rtp pt=0 seq=32896 ts=2155905152 ssrc=80808080 m=1 csrc=0 ext=- pad=0 payload=9986\n";
 
-/// Lines about 20,000 octets long: the front, what stands behind the digits, the status, and the texts of `replay` and of
-/// `inspect`. `d 0 ` and the digits are 20,000 octets, and `d 10 ` makes them 20,001. `long` counts before the other
-/// reasons, also of a comment.
+/// Lines about 20,000 octets long: the front, what stands behind the digits, the status, and the texts of `replay`
+/// and of `inspect`. `d 0 ` and the digits are 20,000 octets, and `d 10 ` makes them 20,001. `long` counts before the
+/// other reasons, also of a comment.
 const LONG: [(&str, &str, Status, &str, &str); 11] = [
     ("d 0 ", "", Status::Done, "2 drop TooLong\n", OCTETS_80),
     ("d 0 ", "\n", Status::Done, "2 drop TooLong\n", OCTETS_80),
