@@ -6,7 +6,8 @@ use Rattle.vrx_codec.specs.declared.fault.JoinFault.{JoinFault}
 use Rattle.vrx_codec.specs.Meaning.{Meaning}
 use Rattle.vrx_codec.specs.declared.join.Join.{Join}
 
--- what a part makes of what was joined before it, how many octets were joined in the end, and which octets a part adds
+-- what a part makes of what was joined before it, how many octets were joined in the end, and which octets a part
+-- adds
 pub record Joining : Type 0 where
   pub step : Join → Part → Result Join JoinFault
   pub end : Join → Result ℕ JoinFault

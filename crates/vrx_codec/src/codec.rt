@@ -11,10 +11,11 @@ use crate::fault::{JoinFault, PartFault};
 use crate::join::Join;
 use crate::part::Part;
 
-/// How a codec's payloads read as parts of frames, and how the parts of a frame join to its bytes. No call takes memory.
+/// How a codec's payloads read as parts of frames, and how the parts of a frame join to its bytes. No call takes
+/// memory.
 ///
-/// To join parts: begin with `Join { unit: None, octets: 0 }`, let each part `step`, and `end`. That gives the number of
-/// octets, or the fault. Then `append` the parts from the same beginning on.
+/// To join parts: begin with `Join { unit: None, octets: 0 }`, let each part `step`, and `end`. That gives the number
+/// of octets, or the fault. Then `append` the parts from the same beginning on.
 pub trait Codec {
     /// How a payload reads, and to which bytes a list of parts joins.
     ghost meaning: { Meaning };
@@ -26,8 +27,8 @@ pub trait Codec {
     fn read_part(payload: &[u8]) -> Result<Part<'_>, PartFault>
         ensures reads { view_result result ≡ meaning.read payload.now };
 
-    /// What a part makes of the parts before it, or why it doesn't join to them. It is a part that `read_part` gave, of at
-    /// most 2^28 octets of body, and the parts before it came to at most 2^30 octets.
+    /// What a part makes of the parts before it, or why it doesn't join to them. It is a part that `read_part` gave,
+    /// of at most 2^28 octets of body, and the parts before it came to at most 2^30 octets.
     fn step(state: Join, part: &Part<'_>) -> Result<Join, JoinFault>
         requires part { IsPartRead meaning (view part.now) }
         requires octets { state.octets ≤ 2 ^ 30 }

@@ -33,6 +33,7 @@ pub struct Part<'a> {
     pub key: bool,
     /// The frame's place among temporal layers, where the payload says it.
     pub layers: Option<Layers>,
-    /// The octets behind the payload's descriptor.
+    /// What the payload brings of the frame: the octets behind the descriptor for VP8 (RFC 7741 4.2), and the whole
+    /// payload for H.264 (RFC 6184 5.2).
     pub body: &'a [u8],
 }

@@ -1,5 +1,5 @@
--- The frame that parts join to: the units of one access unit, in the order of the parts (RFC 6184 5.1, 5.8), each behind
--- a start code as in H.264 annex B.
+-- The frame that parts join to: the units of one access unit, in the order of the parts (RFC 6184 5.1, 5.8), each
+-- behind a start code as in H.264 annex B.
 use Rattle.std.specs.Prelude.{ℕ, ◌==◌, if◌then◌else◌, List, [], ◌∷◌, ◌++◌, Option, None, Some, Result, Ok, Err}
 use Rattle.std.specs.List.{flat_map}
 use Rattle.vrx_codec.specs.Part.{Part}
@@ -15,8 +15,8 @@ start_code = 0 ∷ 0 ∷ 0 ∷ 1 ∷ []
 abbrev pub behind_code : List ℕ → List ℕ
 behind_code unit = start_code ++ unit
 
--- why pieces don't join: 21 where a later fragment comes while no unit is begun, 22 where the fragments of a unit don't
--- end, 23 where a later fragment is of a unit of another type
+-- why pieces don't join: 21 where a later fragment comes while no unit is begun, 22 where the fragments of a unit
+-- don't end, 23 where a later fragment is of a unit of another type
 abbrev pub no_start : JoinFault
 no_start = record { code = 21 }
 
@@ -41,8 +41,8 @@ abbrev pub with_rest : List ℕ → Result Joined JoinFault → Result Joined Jo
 with_rest octets (Ok later) = Ok (record { rest = octets ++ later.rest; units = later.units })
 with_rest octets (Err fault) = Err fault
 
--- The units of pieces, while a unit of this type is begun, or none. A whole unit is one. The first fragment begins a unit
--- with its first octet, which the fragments leave out; later ones of its type go on to the one that ends it.
+-- The units of pieces, while a unit of this type is begun, or none. A whole unit is one. The first fragment begins a
+-- unit with its first octet, which the fragments leave out; later ones of its type go on to the one that ends it.
 abbrev pub units_from : Option ℕ → List Piece → Result Joined JoinFault
 units_from None [] = Ok (record { rest = []; units = [] })
 units_from (Some begun) [] = Err no_end

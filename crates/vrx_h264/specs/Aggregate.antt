@@ -11,8 +11,8 @@ use Rattle.std.specs.Prelude.{ℕ, zero, suc, ◌+◌, ◌*◌, ◌-◌, ◌==�
 use Rattle.vrx_codec.specs.declared.fault.PartFault.{PartFault}
 use Rattle.vrx_h264.specs.Nal.{unit_kind, is_unit_kind}
 
--- what is wrong with a unit of this size at the front of octets, whose size stands at an offset: 13 where the unit runs
--- past the end, 14 where its size is 0, 12 where it is no unit as such
+-- what is wrong with a unit of this size at the front of octets, whose size stands at an offset: 13 where the unit
+-- runs past the end, 14 where its size is 0, 12 where it is no unit as such
 abbrev pub sized_fault : ℕ → ℕ → List ℕ → Option PartFault
 sized_fault at size octets =
     if nat_lt (length octets) size then Some (record { code = 13; at = at })
@@ -56,8 +56,8 @@ units_within (suc most) octets = units_with octets (front octets) (units_within 
 unfoldable pub units_of : List ℕ → Units
 units_of octets = units_within (length octets) octets
 
--- The fault of the octets behind an aggregate's first, told by offsets in the payload. Behind the units that are right
--- nothing is left. Else what is left is wrong, and so is an aggregate without a unit.
+-- The fault of the octets behind an aggregate's first, told by offsets in the payload. Behind the units that are
+-- right nothing is left. Else what is left is wrong, and so is an aggregate without a unit.
 abbrev pub left_fault : ℕ → List ℕ → List ℕ → Option PartFault
 left_fault len (octet ∷ octets) [] = None
 left_fault len octets left = front_fault (1 + len - length left) left

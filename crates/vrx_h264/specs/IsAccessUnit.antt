@@ -1,5 +1,5 @@
--- The units of an access unit as a relation: which pieces carry which units, one unit behind another (RFC 6184 5.6 to 5.8),
--- and what stands where pieces carry none.
+-- The units of an access unit as a relation: which pieces carry which units, one unit behind another (RFC 6184 5.6 to
+-- 5.8), and what stands where pieces carry none.
 use Rattle.std.specs.Prelude.{◌≡◌, ◌≢◌, ℕ, Bool, true, false, List, [], ◌∷◌, ◌++◌, map, ◌⊎◌}
 use Rattle.std.specs.List.{flat_map, AllByRecursion}
 use Rattle.vrx_h264.specs.Nal.{kind}
@@ -17,8 +17,8 @@ pub record IsBegun (carried : List Piece) (first : Fragment) (inner : List Fragm
   pub begun : begins first ≡ true
   pub inside : AllByRecursion (IsLater (kind first.header) false) inner
 
--- a unit in fragments (RFC 6184 5.8): one that begins it, some inside, and one that ends it. Behind its first octet are
--- theirs
+-- a unit in fragments (RFC 6184 5.8): one that begins it, some inside, and one that ends it. Behind its first octet
+-- are theirs
 pub record IsCutUp (carried : List Piece) (unit : List ℕ) : Type 0 where
   pub front : List Piece
   pub first : Fragment

@@ -37,8 +37,8 @@ pub record IsAggregate (payload : List ℕ) (carried : List Piece) : Type 0 wher
   pub each : AllByRecursion IsSizedUnit units
   pub carries : carried ≡ map Whole units
 
--- the payload is an FU-A: an octet of type 28, a header of the unit's type that doesn't say both S and E, and octets of
--- the unit (RFC 6184 5.8)
+-- the payload is an FU-A: an octet of type 28, a header of the unit's type that doesn't say both S and E, and octets
+-- of the unit (RFC 6184 5.8)
 pub record IsCut (payload : List ℕ) (carried : List Piece) : Type 0 where
   pub fragment : Fragment
   pub spelled : payload ≡ fragment.indicator ∷ fragment.header ∷ fragment.octets
@@ -50,7 +50,8 @@ pub record IsCut (payload : List ℕ) (carried : List Piece) : Type 0 where
 abbrev pub IsPayload : List ℕ → List Piece → Type 0
 IsPayload payload carried = IsSingle payload carried ⊎ IsAggregate payload carried ⊎ IsCut payload carried
 
--- how the octets behind an aggregate's first divide: into units, each behind its size, and octets that begin with none
+-- how the octets behind an aggregate's first divide: into units, each behind its size, and octets that begin with
+-- none
 pub record Divides (octets : List ℕ) (units : List (List ℕ)) (left : List ℕ) : Type 0 where
   pub spelled : octets ≡ flat_map sized units ++ left
   pub each : AllByRecursion IsSizedUnit units

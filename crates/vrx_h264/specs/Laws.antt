@@ -1,5 +1,5 @@
--- H.264 keeps the laws of a codec. These are proofs, which the `impl` names, and so they stand here: a reader need believe
--- none of this.
+-- H.264 keeps the laws of a codec. These are proofs, which the `impl` names, and so they stand here: a reader need
+-- believe none of this.
 use Rattle.std.proofs.Common.{◌≡◌, ℕ, zero, suc, ◌+◌, ◌*◌, ◌≤◌, ◌==◌, if◌then◌else◌, Bool, true, false, List, [], ◌∷◌, ◌++◌, length, map, Option, None, Some, IfSome, Result, Ok, Err, IfOk, refl, sym, ap, ◌∙◌, append_assoc, arith}
 use Rattle.std.specs.List.{flat_map}
 use Rattle.std.specs.Option.{option_map}

@@ -9,7 +9,8 @@ use Rattle.vrx_h264.specs.declared.nal.Form.TheVariants.{Single, Aggregate, Frag
 use Rattle.vrx_h264.specs.Nal.{bit, kind, unit_kind, is_unit_kind, is_idr, is_sequence, form}
 use Rattle.vrx_h264.specs.Aggregate.{units_of, aggregate_fault}
 
--- A fragment FU-A of a unit (RFC 6184 5.8): its two octets, and octets of the unit, which begin behind the unit's first.
+-- A fragment FU-A of a unit (RFC 6184 5.8): its two octets, and octets of the unit, which begin behind the unit's
+-- first.
 --
 -- +---------------+---------------+
 -- |0|1|2|3|4|5|6|7|0|1|2|3|4|5|6|7|
@@ -63,8 +64,8 @@ abbrev pub pieces : List ℕ → List Piece
 pieces [] = []
 pieces (head ∷ octets) = pieces_in (form (kind head)) head octets
 
--- what is wrong with the octets behind an indicator: 15 where there is no header, 16 where it says both S and E, 12 where
--- its type isn't that of a unit as such
+-- what is wrong with the octets behind an indicator: 15 where there is no header, 16 where it says both S and E, 12
+-- where its type isn't that of a unit as such
 abbrev pub cut_fault : List ℕ → Option PartFault
 cut_fault [] = Some (record { code = 15; at = 1 })
 cut_fault (header ∷ octets) =
@@ -93,7 +94,8 @@ begin_sequence (piece ∷ later) = is_front piece && is_sequence (piece_kind pie
 abbrev pub hold_idr : List Piece → Bool
 hold_idr pieces = list_any (λ piece. is_idr (piece_kind piece)) pieces
 
--- the part of a payload that carries this: a sequence parameter set begins a frame, and of other units nothing says so
+-- the part of a payload that carries this: a sequence parameter set begins a frame, and of other units nothing says
+-- so
 abbrev pub part_with : List ℕ → List Piece → Part
 part_with payload carried = record {
   start = if begin_sequence carried then Yes else ByNeighbour;

@@ -31,8 +31,8 @@ greatest_nri (unit ∷ units) = max (nri unit) (greatest_nri units)
 abbrev pub written_units : List (List ℕ) → List ℕ
 written_units units = header_octet (have_f units) (greatest_nri units) 24 ∷ flat_map sized units
 
--- The fragment of a unit from one of its octets on, of so many (RFC 6184 5.8). F and NRI are the unit's. It says S where
--- it begins behind the unit's first octet, and E where it ends the unit; R is 0.
+-- The fragment of a unit from one of its octets on, of so many (RFC 6184 5.8). F and NRI are the unit's. It says S
+-- where it begins behind the unit's first octet, and E where it ends the unit; R is 0.
 abbrev pub cut_at : List ℕ → ℕ → ℕ → Fragment
 cut_at unit at len = record {
   indicator = slice_index unit 0 / 32 * 32 + 28;

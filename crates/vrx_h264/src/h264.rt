@@ -14,12 +14,12 @@ use vrx_codec::{Codec, Join, JoinFault, Part, PartFault};
 /// units that they carry, each behind the start code `00 00 00 01`.
 ///
 /// A payload that isn't read has the first of these faults: 11, it is empty; 12, the type of it, of a unit or of a
-/// fragment isn't one of those; in a STAP-A, for one unit after another, 13, a size or a unit runs past the end, or there
-/// is none, 14, a size is 0, and 12; in an FU-A 15, the header is missing, 16, it says both S and E, and 12. Each is told
-/// at the octet that is wrong, 13 and 14 at the size, and 15 at the end.
+/// fragment isn't one of those; in a STAP-A, for one unit after another, 13, a size or a unit runs past the end, or
+/// there is none, 14, a size is 0, and 12; in an FU-A 15, the header is missing, 16, it says both S and E, and 12.
+/// Each is told at the octet that is wrong, 13 and 14 at the size, and 15 at the end.
 ///
-/// Parts don't join with fault 21 where a later fragment comes while no unit is begun, 22 where anything else comes or
-/// they end while one is, and 23 where a later fragment is of another type than the unit.
+/// Parts don't join with fault 21 where a later fragment comes while no unit is begun, 22 where anything else comes
+/// or they end while one is, and 23 where a later fragment is of another type than the unit.
 #[derive(Clone, Copy, Debug, PartialEq, Eq)]
 pub struct H264;
 

@@ -11,8 +11,8 @@ ghost use Rattle.vrx_h264.specs.AccessUnit.{behind_code, no_start, no_end, mixed
 ghost use Rattle.vrx_h264.specs.IsAccessUnit.{AreUnits, LacksStart, LacksEnd, IsMixed};
 ghost use Rattle.vrx_h264.specs.Writing.{written_units, cuts, JoinTo};
 
-/// The laws of payloads (RFC 6184 5.6 to 5.8). Octets carry units exactly where nothing is wrong with them, and the same
-/// units in one way; the part is that of these units; and what carries none is refused. The octets behind an
+/// The laws of payloads (RFC 6184 5.6 to 5.8). Octets carry units exactly where nothing is wrong with them, and the
+/// same units in one way; the part is that of these units; and what carries none is refused. The octets behind an
 /// aggregate's first divide in one way into units and what begins with none; where that is left, the fault is what is
 /// wrong with its front, told behind the units. The function does nothing.
 pub fn one_payload()
@@ -30,9 +30,9 @@ pub fn one_payload()
         aggregate_fault octets ≡ front_fault (1 + length (flat_map sized units)) left }
 {}
 
-/// The laws of access units (RFC 6184 5.6 to 5.8). Pieces join exactly where they carry units, one behind another, and
-/// then to these; and each fault comes exactly where its reason stands behind whole units. One of these holds always.
-/// Parts whose pieces carry units join to these, each behind its start code. The function does nothing.
+/// The laws of access units (RFC 6184 5.6 to 5.8). Pieces join exactly where they carry units, one behind another,
+/// and then to these; and each fault comes exactly where its reason stands behind whole units. One of these holds
+/// always. Parts whose pieces carry units join to these, each behind its start code. The function does nothing.
 pub fn one_access_unit()
     ensures joined { (carried : List Piece) (units : List (List ℕ)) →
         ((units_from None carried ≡ Ok (record { rest = []; units = units })) ↔ AreUnits carried units) }
@@ -45,15 +45,15 @@ pub fn one_access_unit()
         h264.join parts ≡ Ok (flat_map behind_code units) }
 {}
 
-/// The fragments that [`crate::write_fu`] gives of a unit, at least two of at least one octet each and one behind another
-/// to the unit's end, join to the unit behind its start code (RFC 6184 5.8). The function does nothing.
+/// The fragments that [`crate::write_fu`] gives of a unit, at least two of at least one octet each and one behind
+/// another to the unit's end, join to the unit behind its start code (RFC 6184 5.8). The function does nothing.
 pub fn fragments_join()
     ensures { (unit lens : List ℕ) → IsUnit unit → 2 ≤ length lens → AllByRecursion (λ len. 0 < len) lens →
         1 + sum lens ≡ length unit → JoinTo (cuts unit 1 lens) (behind_code unit) }
 {}
 
-/// The payload that [`crate::write_stap`] gives of units joins to the units, each behind its start code (RFC 6184 5.7.1).
-/// The function does nothing.
+/// The payload that [`crate::write_stap`] gives of units joins to the units, each behind its start code (RFC 6184
+/// 5.7.1). The function does nothing.
 pub fn aggregate_joins()
     ensures { (units : List (List ℕ)) → units ≢ [] → AllByRecursion IsSizedUnit units →
         JoinTo (written_units units ∷ []) (flat_map behind_code units) }

@@ -10,8 +10,8 @@
 //! 28:       FU-A: an octet S E R Type, and octets of a unit of that type
 //! ```
 //!
-//! [`H264`] is the codec; [`write_stap`] and [`write_fu`] write what it reads. `specs/IsPayload.antt IsPayload` is the
-//! grammar of payloads, and `specs/IsAccessUnit.antt AreUnits` that of the units which parts join to.
+//! [`H264`] is the codec; [`write_stap`] and [`write_fu`] write what it reads. `specs/IsPayload.antt IsPayload` is
+//! the grammar of payloads, and `specs/IsAccessUnit.antt AreUnits` that of the units which parts join to.
 #![tactic(auto)]
 
 mod aggregate;

@@ -13,7 +13,8 @@ fn part_of<C: Codec>(payload: &[u8]) -> Result<Part<'_>, PartFault> {
     C::read_part(payload)
 }
 
-/// What the one part of a payload makes of a state, and the octets that it adds, by any codec. None where it is no part.
+/// What the one part of a payload makes of a state, and the octets that it adds, by any codec. None where it is no
+/// part.
 fn one_joined<C: Codec>(
     alloc: Global,
     state: Join,
@@ -233,7 +234,8 @@ fn tells_why_units_do_not_join(rt: HostRuntime) -> Result<(), Fail> {
         (&[&[0x7c, 0x45]], 21),
         (&[&[0x67], &[0x7c, 0x05]], 21),
         (&[&[0x7c, 0x85], &[0x7c, 0x45], &[0x7c, 0x45]], 21),
-        // no end, behind the first and behind one inside; a single unit, an aggregate and a first fragment in its place
+        // no end, behind the first and behind one inside; a single unit, an aggregate and a first fragment in its
+        // place
         (&[&[0x7c, 0x85]], 22),
         (&[&[0x7c, 0x85], &[0x7c, 0x05]], 22),
         (&[&[0x7c, 0x85], &[0x65]], 22),

@@ -103,8 +103,9 @@ fn stap_of(alloc: Global, units: &[Unit]) -> Result<Vec<u8>, NoMemory>
     Ok(payload)
 }
 
-/// One payload of several units, a STAP-A (RFC 6184 5.7.1). There is at least one unit, and each is one as such: its first
-/// octet says a type of 1 to 23. F of the payload's first octet is 1 where some unit has it, and NRI is the greatest.
+/// One payload of several units, a STAP-A (RFC 6184 5.7.1). There is at least one unit, and each is one as such: its
+/// first octet says a type of 1 to 23. F of the payload's first octet is 1 where some unit has it, and NRI is the
+/// greatest.
 ///
 /// `SizeTooLong` comes where a unit has more than 65,535 octets.
 pub fn write_stap(alloc: Global, units: &Units) -> Result<Vec<u8>, WriteFault>
@@ -136,11 +137,11 @@ fn cut_header(head: u8, begins: bool, ends: bool) -> u8
     s + e + kind(head)
 }
 
-/// One payload of a fragment of a unit, an FU-A (RFC 6184 5.8): of the `len` octets from octet `at` on. They lie behind the
-/// unit's first octet, and aren't all that do; that first octet says a type of 1 to 23.
+/// One payload of a fragment of a unit, an FU-A (RFC 6184 5.8): of the `len` octets from octet `at` on. They lie
+/// behind the unit's first octet, and aren't all that do; that first octet says a type of 1 to 23.
 ///
-/// F and NRI are the unit's. S is 1 where `at` is 1, E where the fragment ends the unit, and R is 0. The fragments of a
-/// unit, one behind another, join to it: [`crate::fragments_join`].
+/// F and NRI are the unit's. S is 1 where `at` is 1, E where the fragment ends the unit, and R is 0. The fragments of
+/// a unit, one behind another, join to it: [`crate::fragments_join`].
 pub fn write_fu(alloc: Global, unit: &[u8], at: usize, len: usize) -> Result<Vec<u8>, NoMemory>
     requires unit { IsUnit unit.now }
     requires behind_first { 1 ≤ at }

@@ -1,9 +1,15 @@
 -- The fields of a payload are read exactly where its octets spell them.
-use Rattle.std.proofs.Common.{◌≡◌, ℕ, ◌||◌, Bool, true, false, List, [], ◌∷◌, ◌++◌, length, Option, None, Some, refl, ap, sym, ◌∙◌}
+use Rattle.std.proofs.Common.{◌≡◌, ℕ, ◌||◌, ◌&&◌, if◌then◌else◌, Bool, true, false, List, [], ◌∷◌, ◌++◌, length, Option, None, Some, Err, refl, ap, sym, ◌∙◌, subst}
+use Rattle.std.specs.Prelude.{◌↔◌, ◌%◌, ◌==◌, IsSome, Ok}
+use Rattle.std.specs.Result.{result_ok}
+use Rattle.std.proofs.lemmas.Bool.{true≢false, eqb-true, eq-eqb}
 use Rattle.std.proofs.lemmas.Option.{none-some, same_Some}
+use Rattle.vrx_codec.specs.Part.{Part}
+use Rattle.vrx_codec.specs.declared.part.Start.{Start}
+use Rattle.vrx_codec.specs.declared.part.Start.TheVariants.{Yes, No}
 use Rattle.vrx_codec.specs.declared.part.Layers.{Layers}
-use Rattle.vrx_vp8.specs.Descriptor.{bit, ◌>>=◌, octet_if, Fields, fields, part_of, read_part}
-use Rattle.vrx_vp8.specs.IsDescriptor.{Comes, octet_of, IsDescriptor}
+use Rattle.vrx_vp8.specs.Descriptor.{bit, ◌>>=◌, octet_if, Fields, fields, part_with, part_of, read_part}
+use Rattle.vrx_vp8.specs.IsDescriptor.{Comes, octet_of, IsDescriptor, SaysLayers, SaysKey}
 
 -- what comes is taken
 octet_if-comes : (flag : Bool) (octets rest : List ℕ) → Comes flag octets → octet_if flag (octets ++ rest) ≡ Some (octet_of octets, rest)
@@ -73,3 +79,60 @@ fields-spelled payload f is =
 pub cut : (payload : List ℕ) (o : Option Fields) → fields payload ≡ o → ((f : Fields) → IsDescriptor payload f → ⊥) → read_part payload ≡ part_of (length payload) None
 cut payload None is none = ap (part_of (length payload)) is
 cut payload (Some f) is none = absurd (none f (fields_spelled payload f is))
+
+-- where a bit of the octet that came is 1, one came
+came : (flag : Bool) (value : ℕ) (octets : List ℕ) → Comes flag octets → bit value 0 ≡ false → bit value (octet_of octets) ≡ true → flag ≡ true
+came true value octets comes none is = refl
+came false value octets comes none is = sym none ∙ ap (λ os. bit value (octet_of os)) (sym comes) ∙ is
+
+-- three bits are 1
+pub record All3 (a b c : Bool) : Type 0 where
+  pub a_is : a ≡ true
+  pub b_is : b ≡ true
+  pub c_is : c ≡ true
+
+-- there is a value where three bits are 1, and nowhere else
+some_if : {A : Type 0} (a b c : Bool) (x : A) → IsSome (if a && b && c then Some x else None) → All3 a b c
+some_if true true true x is = record { a_is = refl; b_is = refl; c_is = refl }
+some_if true true false x is = absurd (true≢false (sym is))
+some_if true false c x is = absurd (true≢false (sym is))
+some_if false b c x is = absurd (true≢false (sym is))
+
+if_some : {A : Type 0} (a b c : Bool) (x : A) → a ≡ true → b ≡ true → c ≡ true → IsSome (if a && b && c then Some x else None)
+if_some a b c x is_a is_b is_c = rw is_a (rw is_b (rw is_c refl))
+
+-- there are layers exactly where the octets say so
+pub layers-said : (payload : List ℕ) (f : Fields) (d : IsDescriptor payload f) → IsSome f.layers → SaysLayers payload f d
+layers-said payload f d some =
+    let three = some_if (bit 128 (octet_of d.picture)) (bit 64 (octet_of d.flags)) (bit 32 (octet_of d.flags)) _ (subst IsSome d.layers some) in
+    record {
+      x = came (bit 128 d.head) 64 d.flags d.x refl three.b_is;
+      i = came (bit 128 (octet_of d.flags)) 128 d.picture d.i refl three.a_is;
+      l = three.b_is;
+      t = three.c_is;
+      m = three.a_is;
+    }
+
+pub said-layers : (payload : List ℕ) (f : Fields) (d : IsDescriptor payload f) → SaysLayers payload f d → IsSome f.layers
+said-layers payload f d says = subst IsSome (sym d.layers) (if_some (bit 128 (octet_of d.picture)) (bit 64 (octet_of d.flags)) (bit 32 (octet_of d.flags)) _ says.m says.l says.t)
+
+-- nothing follows the descriptor
+pub bare : (payload : List ℕ) (f : Fields) → IsDescriptor payload f → f.body ≡ [] → read_part payload ≡ Err (record { code = 2; at = length payload })
+bare payload f is empty = ap (part_of (length payload)) (fields-spelled payload f is) ∙ ap (part_with (length payload) f) empty
+
+-- a start whose body begins with an even octet, as a test and as the types of the code
+both_tests : (start : Bool) (octet : ℕ) → ((start && (octet % 2 == 0)) ≡ true) ↔ (◌≡◌ {A = Start} (if start then Yes else No) Yes × (octet % 2 ≡ 0))
+both_tests true octet = (λ h. (refl, eqb-true (octet % 2) 0 h), λ h. eq-eqb (octet % 2) 0 h.1)
+both_tests false octet = (λ h. absurd (true≢false (sym h)), λ h. absurd (cc))
+
+-- a part says a keyframe exactly where it is such a start
+keyed-with : (len : ℕ) (f : Fields) (body : List ℕ) (part : Part) → part_with len f body ≡ Ok part → (part.key ≡ true) ↔ SaysKey part
+keyed-with len f [] part is = absurd (none-some part (ap result_ok is))
+keyed-with len f (octet ∷ rest) part is = subst (λ (p : Part). (p.key ≡ true) ↔ SaysKey p) (same_Some _ part (ap result_ok is)) (both_tests f.start octet)
+
+keyed-of : (len : ℕ) (f : Option Fields) (part : Part) → part_of len f ≡ Ok part → (part.key ≡ true) ↔ SaysKey part
+keyed-of len None part is = absurd (none-some part (ap result_ok is))
+keyed-of len (Some f) part is = keyed-with len f f.body part is
+
+pub keyed : (payload : List ℕ) (part : Part) → read_part payload ≡ Ok part → (part.key ≡ true) ↔ SaysKey part
+keyed payload part is = keyed-of (length payload) (fields payload) part is

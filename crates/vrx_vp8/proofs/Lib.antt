@@ -1,2 +1,3 @@
 pub mod DescriptorLemmas
 pub mod WrittenLemmas
+pub mod Rows

@@ -1,5 +1,7 @@
 -- The descriptor as a relation: which octets spell which fields (RFC 7741 4.2).
-use Rattle.std.specs.Prelude.{◌≡◌, ℕ, ◌+◌, ◌*◌, ◌/◌, ◌%◌, Bool, true, false, ◌&&◌, ◌||◌, ◌==◌, if◌then◌else◌, List, [], ◌∷◌, ◌++◌, slice_index, None, Some}
+use Rattle.std.specs.Prelude.{◌≡◌, ℕ, ◌+◌, ◌*◌, ◌/◌, ◌%◌, Bool, true, false, ◌&&◌, ◌||◌, ◌==◌, if◌then◌else◌, List, [], ◌∷◌, ◌++◌, slice_get, slice_index, None, Some, IsSomeAnd}
+use Rattle.vrx_codec.specs.Part.{Part}
+use Rattle.vrx_codec.specs.declared.part.Start.TheVariants.{Yes}
 use Rattle.vrx_vp8.specs.Descriptor.{bit, Fields}
 
 -- one octet where a flag says that it comes, and else none
@@ -11,8 +13,9 @@ Comes false octets = octets ≡ []
 abbrev pub octet_of : List ℕ → ℕ
 octet_of octets = slice_index octets 0
 
--- The payload is the octets of the descriptor, of which each comes where a bit before it says so, and then the body. The
--- frame begins where S = 1 and PID = 0. There are layers where the PictureID has M = 1, so 15 bits, and L and T are 1.
+-- The payload is the octets of the descriptor, of which each comes where a bit before it says so, and then the body.
+-- The frame begins where S = 1 and PID = 0. There are layers where the PictureID has M = 1, so 15 bits, and L and T
+-- are 1.
 pub record IsDescriptor (payload : List ℕ) (f : Fields) : Type 0 where
   pub head : ℕ
   pub flags : List ℕ
@@ -36,3 +39,16 @@ pub record IsDescriptor (payload : List ℕ) (f : Fields) : Type 0 where
         sync = bit 32 (octet_of tid);
       })
       else None)
+
+-- the octets say layers: X, I, L and T are 1, and so is M: the PictureID has 15 bits
+pub record SaysLayers (payload : List ℕ) (f : Fields) (d : IsDescriptor payload f) : Type 0 where
+  pub x : bit 128 d.head ≡ true
+  pub i : bit 128 (octet_of d.flags) ≡ true
+  pub l : bit 64 (octet_of d.flags) ≡ true
+  pub t : bit 32 (octet_of d.flags) ≡ true
+  pub m : bit 128 (octet_of d.picture) ≡ true
+
+-- a part says a keyframe: it is a start, and bit P of the frame's first octet, the least significant one, is 0 (RFC
+-- 7741 4.3)
+abbrev pub SaysKey : Part → Type 0
+SaysKey part = (part.start ≡ Yes) × IsSomeAnd (slice_get part.body 0) (λ octet. octet % 2 ≡ 0)

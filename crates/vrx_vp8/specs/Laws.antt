@@ -1,5 +1,5 @@
--- VP8 keeps the laws of a codec. These are proofs, which the `impl` names, and so they stand here: a reader need believe
--- none of this.
+-- VP8 keeps the laws of a codec. These are proofs, which the `impl` names, and so they stand here: a reader need
+-- believe none of this.
 use Rattle.std.proofs.Common.{◌≡◌, ℕ, ◌+◌, ◌*◌, ◌%◌, ◌/◌, ◌<◌, ◌≤◌, ◌&&◌, ◌||◌, if◌then◌else◌, Bool, true, false, List, [], ◌∷◌, length, Option, None, Some, IfSome, Ok, IfOk, refl, ap, arith}
 use Rattle.std.specs.List.{flat_map}
 use Rattle.std.proofs.lemmas.List.Elements.{All-head, All-tail}

@@ -16,8 +16,8 @@ written start (Some layers) body =
     (128 + start_bit start) ∷ (128 + 64 + 32) ∷ (128 + layers.picture / 256) ∷ (layers.picture % 256) ∷ layers.tl0
     ∷ (layers.tid * 64 + (if layers.sync then 32 else 0)) ∷ body
 
--- The part that is said: it says a keyframe where it begins a frame whose first octet has bit P, the least significant
--- one, 0 (RFC 7741 4.3)
+-- The part that is said: it says a keyframe where it begins a frame whose first octet has bit P, the least
+-- significant one, 0 (RFC 7741 4.3)
 abbrev pub said : Bool → Option Layers → List ℕ → Part
 said start layers body = record {
   start = if start then Yes else No;

@@ -1,6 +1,6 @@
 //! From a payload to the fields of its descriptor.
 
-ghost use Rattle.std.specs.Prelude.{◌≡◌, ℕ, ◌+◌, ◌*◌, ◌/◌, ◌%◌, ◌<◌, ◌&&◌, if◌then◌else◌, length, Some, None};
+ghost use Rattle.std.specs.Prelude.{◌≡◌, ◌+◌, ◌*◌, ◌/◌, ◌%◌, ◌<◌, ◌&&◌, if◌then◌else◌, Some, None};
 ghost use Rattle.std.specs.Option.{option_map};
 ghost use Rattle.vrx_codec.specs.View.{view_result};
 ghost use Rattle.vrx_vp8.specs.Descriptor.{bit as bit_of, octet_if as octet_if_of, fields_behind as fields_behind_of, fields as fields_of, part_with as part_with_of, read_part as read_part_of};

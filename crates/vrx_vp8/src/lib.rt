@@ -1,4 +1,4 @@
-//! Reads and writes the payload descriptor of VP8 (RFC 7741 4.2), and joins the parts of its frames (RFC 7741 4.1).
+//! Reads and writes the payload descriptor of VP8 (RFC 7741 4.2), and joins the parts of its frames (RFC 7741 4.4).
 //!
 //! ```text
 //!       0 1 2 3 4 5 6 7
@@ -15,7 +15,8 @@
 //!      +-+-+-+-+-+-+-+-+
 //! ```
 //!
-//! [`Vp8`] is the codec, and [`write_part`] writes what it reads. `specs/IsDescriptor.antt IsDescriptor` is the grammar.
+//! [`Vp8`] is the codec, and [`write_part`] writes what it reads. The grammar is `specs/IsDescriptor.antt
+//! IsDescriptor`.
 #![tactic(auto)]
 
 mod descriptor;

@@ -165,7 +165,7 @@ fn reads_layers(rt: HostRuntime) {
 #[test]
 fn tells_where_a_payload_ends_too_early(rt: HostRuntime) {
     // 1: the descriptor runs past the end; 2: nothing follows it
-    let cases: [(&[u8], u8); 18] = [
+    let cases: [(&[u8], u8); 25] = [
         // the longest descriptor, cut at each octet
         (&[], 1),
         (&[0x90], 1),
@@ -179,14 +179,22 @@ fn tells_where_a_payload_ends_too_early(rt: HostRuntime) {
         (&[0x00], 2),
         (&[0x10], 2),
         (&[0x80, 0x00], 2),
-        // I with 7 bits; L; T; K; L and T; L and K
+        // I with 7 bits, and with 15; L; T; K; L and T; L and K
         (&[0x80, 0x80], 1),
         (&[0x80, 0x80, 0x11], 2),
+        (&[0x80, 0x80, 0x81], 1),
+        (&[0x80, 0x80, 0x81, 0x02], 2),
         (&[0x80, 0x40], 1),
+        (&[0x80, 0x40, 0x07], 2),
         (&[0x80, 0x20], 1),
+        (&[0x80, 0x20, 0xa0], 2),
         (&[0x80, 0x10], 1),
+        (&[0x80, 0x10, 0x1f], 2),
         (&[0x80, 0x60, 0x07], 1),
+        (&[0x80, 0x60, 0x07, 0xa0], 2),
         (&[0x80, 0x50, 0x07], 1),
+        // a start with layers
+        (&[0x90, 0xe0, 0x80, 0x01, 0x05, 0x00], 2),
     ];
     for (payload, code) in cases {
         let at = payload.len();

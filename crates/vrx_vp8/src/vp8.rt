@@ -1,18 +1,19 @@
 //! VP8 as a codec.
 
-ghost use Rattle.std.specs.Prelude.{◌≡◌};
 ghost use Rattle.vrx_vp8.specs.Descriptor.{vp8};
 ghost use Rattle.vrx_vp8.specs.Joining.{joining as joining_of};
 ghost use Rattle.vrx_vp8.specs.Laws.{vp8_within, vp8_joins};
-ghost use Rattle.std.proofs.Common.{rules, arith};
+ghost use Rattle.std.proofs.Common.{rules};
 
 use crate::descriptor::part_of;
 use vrx_codec::{Codec, Join, JoinFault, Part, PartFault};
 
-/// VP8 (RFC 7741). Its parts always join, to their bodies one after the other.
+/// VP8 (RFC 7741 4). Its parts always join, to their bodies one after the other (RFC 7741 4.4).
 ///
-/// A payload that isn't read has fault 1 where its descriptor runs past the end, and else fault 2, where nothing follows
-/// the descriptor: both at the payload's end.
+/// A payload is a descriptor and a body (RFC 7741 4.2). One that isn't read has fault 1 where its descriptor runs
+/// past the end, and else fault 2, where nothing follows the descriptor: both at the payload's end. A part is a start
+/// where S = 1 and PID = 0, and then says a keyframe where its body's first octet is even (RFC 7741 4.3). It has
+/// layers where X, I, L and T are 1 and the PictureID has 15 bits.
 #[derive(Clone, Copy, Debug, PartialEq, Eq)]
 pub struct Vp8;
 

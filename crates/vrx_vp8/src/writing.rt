@@ -1,6 +1,6 @@
 //! From a part to a payload.
 
-ghost use Rattle.std.specs.Prelude.{◌≡◌, ◌+◌, ◌*◌, ◌<◌, if◌then◌else◌, length, ◌++◌, OnOk, IfOk, IfSome, Ok};
+ghost use Rattle.std.specs.Prelude.{◌≡◌, ◌+◌, ◌*◌, ◌<◌, if◌then◌else◌, length, IfOk, IfSome, Ok};
 ghost use Rattle.vrx_codec.specs.Joining.{FitsLayers};
 ghost use Rattle.vrx_vp8.specs.Descriptor.{read_part};
 ghost use Rattle.vrx_vp8.specs.Writing.{start_bit as start_bit_of, written, said};
@@ -53,10 +53,12 @@ fn octets_of(
     Ok(payload)
 }
 
-/// The payload of a part of a frame: its descriptor (RFC 7741 4.2), and `body`, of which there is at least one octet. The
-/// picture of the layers has 15 bits, and the TID is 0 to 3. Bits that say nothing are 0, N and KEYIDX too.
+/// The payload of a part of a frame: its descriptor (RFC 7741 4.2), and `body`, of which there is at least one octet.
+/// The picture of the layers has 15 bits, and the TID is 0 to 3. Bits that say nothing are 0, N and KEYIDX too.
+/// Where it finds no memory, the answer is `NoMemory`.
 ///
-/// The part is the frame's first where `start` is true, and then says a keyframe where the body's first octet is even.
+/// The part is the frame's first where `start` is true, and then says a keyframe where the body's first octet is even
+/// (RFC 7741 4.3).
 pub fn write_part(
     alloc: Global,
     start: bool,
