@@ -19,7 +19,7 @@ use Rattle.vrx_core.proofs.KeyLemmas.{same_key}
 use Rattle.vrx_core.proofs.KeepsLemmas.{find-placed, open-newest}
 use Rattle.vrx_core.proofs.TakenLemmas.{verdict_taken, verdict_open}
 use Rattle.vrx_core.proofs.TextLemmas.{text_in-to}
-use Rattle.vrx_core.proofs.StandsLemmas.{reply-is}
+use Rattle.vrx_core.proofs.MachineLemmas.{reply-is}
 
 -- a value behind two tests
 found_behind : (a b : Bool) (c content : Content) (o : Option Content) → cond a (Some c) (cond b o None) ≡ Some content → ((a ≡ true) × (c ≡ content)) ⊎ ((b ≡ true) × (o ≡ Some content))
@@ -36,16 +36,16 @@ placed_at newest m n c content packets is =
     ]
 
 -- the newest number isn't below the one taken
-newest-from : (newest : Option ℕ) (n : ℕ) → n ≤ newest_with newest n
+pub newest-from : (newest : Option ℕ) (n : ℕ) → n ≤ newest_with newest n
 newest-from None n = omega arith
 newest-from (Some m) n = omega arith
 
 -- the window, as an order
-window-order : (newest n : ℕ) → in_window newest n ≡ true → (newest < n + 2048) × (n ≤ newest)
+pub window-order : (newest n : ℕ) → in_window newest n ≡ true → (newest < n + 2048) × (n ≤ newest)
 window-order newest n is = let both : (nat_lt newest (n + 2048) ≡ true) × (nat_le n newest ≡ true) = and_parts _ _ is in (ltb-true newest (n + 2048) both.0, leb-true n newest both.1)
 
 -- a pull leaves the packets and the newest number
-pull_leaves : (s : Snapshot) (moment : ℕ) (o : Option Frame) → ((after_pull s moment o).packets ≡ s.packets) × ((after_pull s moment o).newest ≡ s.newest)
+pub pull_leaves : (s : Snapshot) (moment : ℕ) (o : Option Frame) → ((after_pull s moment o).packets ≡ s.packets) × ((after_pull s moment o).newest ≡ s.newest)
 pull_leaves s moment None = (refl, refl)
 pull_leaves s moment (Some frame) = (refl, refl)
 
@@ -55,7 +55,7 @@ module _ (settings : Settings) (codec : Meaning) (h : List Event) (n : ℕ) (con
   taken_before e w = record { before = w.before; moment = w.moment; octets = w.octets; after = e ∷ w.after; history = ap (λ (t : List Event). e ∷ t) w.history; taken = w.taken; media = w.media }
 
   -- what is available after a datagram
-  available_after : (moment : ℕ) (octets : List ℕ) (v : Result (ℕ × Content) NotTaken) → verdict settings (latest (snapshots settings codec h)).newest (latest (snapshots settings codec h)).packets octets ≡ v
+  available_after : (moment : ℕ) (octets : List ℕ) (v : Result (ℕ × Content) NotTaken) → verdict settings codec (latest (snapshots settings codec h)).newest (latest (snapshots settings codec h)).packets octets ≡ v
       → (at n (latest (snapshots settings codec h)).packets ≡ Some content → WasTaken settings codec h n content × IsInWindow (latest (snapshots settings codec h)).newest n)
       → at n (after_datagram (latest (snapshots settings codec h)) moment v).packets ≡ Some content → WasTaken settings codec (Datagram moment octets ∷ h) n content × IsInWindow (after_datagram (latest (snapshots settings codec h)) moment v).newest n
   available_after moment octets (Err reason) is old there = (taken_before (Datagram moment octets) (old there).0, (old there).1)
@@ -65,7 +65,7 @@ module _ (settings : Settings) (codec : Meaning) (h : List Event) (n : ℕ) (con
         | inl new ↦
             let same : n ≡ m = new.0 in
             let least : m ≤ newest_with s.newest m = newest-from s.newest m in
-            let most : newest_with s.newest m < m + 2048 = open-newest s.newest m (verdict_open settings s.newest s.packets octets m c is).0 in (
+            let most : newest_with s.newest m < m + 2048 = open-newest s.newest m (verdict_open settings codec s.newest s.packets octets m c is).0 in (
               record {
                 before = h;
                 moment = moment;
@@ -73,7 +73,7 @@ module _ (settings : Settings) (codec : Meaning) (h : List Event) (n : ℕ) (con
                 after = [];
                 history = refl;
                 taken = reply-is settings codec h (Datagram moment octets) ∙ ap answered is ∙ ap answered_media (sym same);
-                media = text_in-to s.newest (read octets) m content (verdict_taken settings s.newest s.packets octets m c is).0 (sym new.1 ∙ (verdict_taken settings s.newest s.packets octets m c is).1);
+                media = text_in-to s.newest (read octets) m content (verdict_taken settings codec s.newest s.packets octets m c is).0 (sym new.1 ∙ (verdict_taken settings codec s.newest s.packets octets m c is).1);
               },
               (omega arith, omega arith),
             )
@@ -91,7 +91,7 @@ unfolding snapshots
 available_are settings codec [] n content there = absurd (none-some content there)
 available_are settings codec (Datagram moment octets ∷ h) n content there =
     let s : Snapshot = latest (snapshots settings codec h) in
-    available_after settings codec h n content moment octets (verdict settings s.newest s.packets octets) refl (available_are settings codec h n content) there
+    available_after settings codec h n content moment octets (verdict settings codec s.newest s.packets octets) refl (available_are settings codec h n content) there
 available_are settings codec (Tick moment ∷ h) n content there =
     let before = available_are settings codec h n content there in
     (taken_before settings codec h n content (Tick moment) before.0, before.1)

@@ -1,15 +1,15 @@
 -- The runs among an honest sender's packets are its frames.
-use Rattle.std.proofs.Common.{◌≡◌, ◌↔◌, ℕ, zero, suc, ◌+◌, ◌-◌, ◌<◌, ◌≤◌, Bool, true, ◌||◌, if◌then◌else◌, List, [], ◌∷◌, map, length, slice_get, Contains, Option, Some, None, IsSomeAnd, is_some, Result, Ok, Err, refl, sym, ◌∙◌, ap, subst, arith}
-use Rattle.std.specs.Prelude.{◌==◌}
+use Rattle.std.proofs.Common.{◌≡◌, ◌↔◌, ℕ, zero, suc, ◌+◌, ◌-◌, ◌<◌, ◌≤◌, Bool, true, ◌||◌, List, [], ◌∷◌, map, length, slice_get, Contains, Option, Some, None, IsSomeAnd, is_some, Result, Ok, Err, refl, sym, ◌∙◌, ap, subst, arith}
 use Rattle.std.specs.List.{AllByRecursion, list_any}
 use Rattle.std.proofs.lemmas.Option.{same_Some}
-use Rattle.std.proofs.lemmas.Bool.{true≢false, ne_eqb}
+use Rattle.std.proofs.lemmas.Bool.{true≢false}
 use Rattle.std.proofs.lemmas.List.{length-map}
 use Rattle.std.proofs.lemmas.List.Elements.{All-from_recursion, recursion_from_All}
 use Rattle.vrx_rtp.specs.Packet.{Packet}
 use Rattle.vrx_rtp.specs.Reading.{read}
 use Rattle.vrx_codec.specs.Part.{Part}
-use Rattle.vrx_codec.specs.declared.part.Start.TheVariants.{Yes, No}
+use Rattle.vrx_codec.specs.declared.part.Start.{Start}
+use Rattle.vrx_codec.specs.declared.part.Start.TheVariants.{Yes, No, ByNeighbour}
 use Rattle.vrx_codec.specs.declared.fault.JoinFault.{JoinFault}
 use Rattle.vrx_codec.specs.Meaning.{Meaning}
 use Rattle.vrx_core.specs.Window.{Content, Packets, at, is_available}
@@ -18,7 +18,7 @@ use Rattle.vrx_core.specs.Run.{Run, Piece, begins, is_passed, began_behind, is_s
 use Rattle.vrx_core.specs.IsRun.{IsPiece, ArePieces, IsRun}
 use Rattle.vrx_core.specs.Sender.{SentFrame, SentPacket, Media, Sender}
 use Rattle.vrx_core.specs.WireForm.{content_of}
-use Rattle.vrx_core.specs.HonestSender.{Carried, IsPart, AreParts, Travels, HonestSender}
+use Rattle.vrx_core.specs.HonestSender.{Carried, SaysRightly, IsPart, AreParts, Travels, HonestSender}
 use Rattle.vrx_core.specs.Ready.{IsNumber}
 use Rattle.vrx_core.specs.HonestRuns.{IsFrameRun}
 use Rattle.vrx_core.specs.declared.settings.Settings.{Settings}
@@ -37,14 +37,14 @@ number_later sender (k ∷ js) i n d j m is is_j is_m =
     IsNumber-from_oldest sender k js j m e
 
 -- an Ok holds one value
-same_ok : {A E : Type 0} (x y : A) → ◌≡◌ {A = Result A E} (Ok x) (Ok y) → x ≡ y
+pub same_ok : {A E : Type 0} (x y : A) → ◌≡◌ {A = Result A E} (Ok x) (Ok y) → x ≡ y
 same_ok x y e = ap (λ r. held r x) e where
   held : {A E : Type 0} → Result A E → A → A
   held (Ok z) d = z
   held (Err fault) d = d
 
 -- media has one text
-abbrev media_text : Content → List ℕ
+abbrev pub media_text : Content → List ℕ
 media_text (window.Media text) = text
 media_text (window.Fec payload) = payload
 media_text window.Empty = []
@@ -56,9 +56,9 @@ said pieces = map (λ p. p.part) pieces
 abbrev meant : List Carried → List Part
 meant parts = map (λ c. c.part) parts
 
--- a part behind the first doesn't begin its frame
-start_later : (m : ℕ) → (if suc m == 0 then Yes else No) ≡ No
-start_later m = ap (λ b. if b then Yes else No) (ne_eqb (suc m) 0 (λ same. absurd (omega arith)))
+-- what decides of a number whose payload leaves open whether a frame begins there
+abbrev pub is_behind : Option ℕ → List Packets → ℕ → Bool
+is_behind front times n = is_passed front (n - 1) || began_behind times n
 
 -- a test of a mapped list
 any_map : {X Y : Type 0} (f : X → Y) (test : Y → Bool) (xs : List X) → list_any test (map f xs) ≡ list_any (λ x. test (f x)) xs
@@ -105,17 +105,24 @@ module _ (settings : Settings) (codec : Meaning) (sender : Sender) (js : List �
       ap (λ x. x ∷ said (q ∷ ps)) first ∙ ap (λ xs. c.part ∷ xs) rest
 
   module _ (honest : HonestSender settings codec sender) where
-    -- a first piece that is a start is the first part of a frame
-    begins_first : (front : Option ℕ) (times : List Packets) (n i : ℕ) (p : Piece) (s : IsSent settings codec sender honest i) → IsNumber sender js i n → IsPiece codec packets n p → is_start front times p ≡ true → s.k ≡ 0
-    begins_first front times n i p s numbered piece start = first s.k refl where
-      says : p.part.start ≡ (if s.k == 0 then Yes else No)
-      says = ap (λ (x : Part). x.start) (piece-part s.f s.frame (size settings codec sender honest s.f) s.k i n s.carried p numbered s.part piece) ∙ s.part.start
+    -- from a number on, none but a first part stands behind the end of a frame
+    abbrev pub FirstBehind : Option ℕ → List Packets → ℕ → Type 0
+    FirstBehind front times from = (i n : ℕ) → from ≤ n → is_available n packets ≡ true → IsNumber sender js i n → (s : IsSent settings codec sender honest i) → is_behind front times n ≡ true → s.k ≡ 0
 
-      first : (k : ℕ) → s.k ≡ k → s.k ≡ 0
-      first zero is = is
-      first (suc k) is =
-          let no : p.part.start ≡ No = says ∙ ap (λ (x : ℕ). if x == 0 then Yes else No) is ∙ start_later k in
-          absurd (true≢false (sym start ∙ ap (λ x. begins x (is_passed front (p.number - 1) || began_behind times p.number)) no))
+    -- a part that is a start is the first part of a frame
+    start_first : (front : Option ℕ) (times : List Packets) (from i n : ℕ) (s : IsSent settings codec sender honest i) → FirstBehind front times from → from ≤ n → is_available n packets ≡ true → IsNumber sender js i n → begins s.carried.part.start (is_behind front times n) ≡ true → s.k ≡ 0
+    start_first front times from i n s first upto available numbered start = by_start s.carried.part.start refl where
+      by_start : (x : Start) → s.carried.part.start ≡ x → s.k ≡ 0
+      by_start Yes is = subst (SaysRightly s.k) is s.part.start
+      by_start No is = absurd (true≢false (sym start ∙ ap (λ x. begins x (is_behind front times n)) is))
+      by_start ByNeighbour is = first i n upto available numbered s (sym (ap (λ x. begins x (is_behind front times n)) is) ∙ start)
+
+    -- a first piece that is a start is the first part of a frame
+    begins_first : (front : Option ℕ) (times : List Packets) (n i : ℕ) (p : Piece) (s : IsSent settings codec sender honest i) → FirstBehind front times n → IsNumber sender js i n → IsPiece codec packets n p → is_start front times p ≡ true → s.k ≡ 0
+    begins_first front times n i p s first numbered piece start =
+        let says : p.part.start ≡ s.carried.part.start = ap (λ (x : Part). x.start) (piece-part s.f s.frame (size settings codec sender honest s.f) s.k i n s.carried p numbered s.part piece) in
+        start_first front times n i n s first (omega arith) (ap is_some piece.media) numbered
+        (ap (λ x. begins x (is_behind front times n)) (sym says) ∙ ap (λ (m : ℕ). begins p.part.start (is_behind front times m)) (sym piece.number) ∙ start)
 
     -- a keyframe, by its pieces and by its parts
     same_key : (run : Run) (frame : SentFrame) (ps : List Piece) (cs : List Carried) → said ps ≡ meant cs → (run.key ≡ true) ↔ ((p : Piece) × Contains ps p × (p.part.key ≡ true)) → (frame.key ≡ true) ↔ ((c : Carried) × Contains cs c × (c.part.key ≡ true)) → run.key ≡ frame.key
@@ -126,15 +133,15 @@ module _ (settings : Settings) (codec : Meaning) (sender : Sender) (js : List �
           agree = sym (any_map (λ p. p.part) (λ x. x.key) ps) ∙ ap (list_any (λ (x : Part). x.key)) same ∙ any_map (λ c. c.part) (λ x. x.key) cs
 
     -- a run whose first piece is a part of a frame is the frame
-    run_of_frame : (front : Option ℕ) (times : List Packets) (run : Run) (r : IsRun codec front times packets run) (i : ℕ) (s : IsSent settings codec sender honest i) (p : Piece) (ps : List Piece) → r.pieces ≡ p ∷ ps → IsNumber sender js i run.first → IsFrameRun sender js s.f run
-    run_of_frame front times run r i s p ps is numbered =
+    run_of_frame : (front : Option ℕ) (times : List Packets) (run : Run) (r : IsRun codec front times packets run) (i : ℕ) (s : IsSent settings codec sender honest i) (p : Piece) (ps : List Piece) → FirstBehind front times run.first → r.pieces ≡ p ∷ ps → IsNumber sender js i run.first → IsFrameRun sender js s.f run
+    run_of_frame front times run r i s p ps first_behind is numbered =
         let t : Travels settings codec sender s.f s.frame (honest.place s.f) (honest.parts s.f) = frame_travels settings codec sender honest s.f s.frame s.sent in
         let pieces : ArePieces codec packets run.first (p ∷ ps) = subst (ArePieces codec packets run.first) is r.from_first in
         let to : run.first + length (p ∷ ps) ≡ run.last + 1 = sym (ap (λ xs. run.first + length xs) is) ∙ r.to_last in
         let start : AllByRecursion (λ q. (is_start front times q ≡ true) ↔ (q.number ≡ run.first)) (p ∷ ps) = subst (AllByRecursion (λ q. (is_start front times q ≡ true) ↔ (q.number ≡ run.first))) is (recursion_from_All _ r.pieces r.start) in
         let marker : AllByRecursion (λ q. (q.packet.marker ≡ true) ↔ (q.number ≡ run.last)) (p ∷ ps) = subst (AllByRecursion (λ q. (q.packet.marker ≡ true) ↔ (q.number ≡ run.last))) is (recursion_from_All _ r.pieces r.marker) in
         let ts : AllByRecursion (λ q. q.packet.ts ≡ run.ts) (p ∷ ps) = subst (AllByRecursion (λ q. q.packet.ts ≡ run.ts)) is (recursion_from_All _ r.pieces r.ts) in
-        let first : s.k ≡ 0 = begins_first front times run.first i p s numbered pieces.0 (start.0.1 pieces.0.number) in
+        let first : s.k ≡ 0 = begins_first front times run.first i p s first_behind numbered pieces.0 (start.0.1 pieces.0.number) in
         let here : honest.place s.f + s.k ≡ i = s.here in
         let begin : IsNumber sender js (honest.place s.f) run.first = number_later sender js i run.first 0 (honest.place s.f) run.first numbered (omega arith) (omega arith) in
         let some : 0 < length (honest.parts s.f) = t.some in
@@ -154,13 +161,13 @@ module _ (settings : Settings) (codec : Meaning) (sender : Sender) (js : List �
           ts = sym ts.0 ∙ ap (λ (x : Packet). x.ts) packet_is ∙ s.part.timestamp;
           key = same_key run s.frame r.pieces (honest.parts s.f) (ap said is ∙ same) r.key t.key;
           layers = subst (λ xs. IsSomeAnd (slice_get xs 0) (λ q. run.layers ≡ q.part.layers)) is r.layers
-              ∙ ap (λ (x : Part). x.layers) (piece-part s.f s.frame (size settings codec sender honest s.f) s.k i run.first s.carried p numbered s.part pieces.0) ∙ s.part.layers;
+              ∙ ap (λ (x : Part). x.layers) (piece-part s.f s.frame (size settings codec sender honest s.f) s.k i run.first s.carried p numbered s.part pieces.0) ∙ s.part.media.layers;
           bytes = same_ok {E = JoinFault} run.bytes s.frame.bytes (sym r.joins ∙ ap codec.join (ap said is ∙ same) ∙ t.joins);
         }
 
     -- a run is a frame of the sender
-    pub run-frame : (front : Option ℕ) (times : List Packets) (run : Run) → IsRun codec front times packets run → (f : ℕ) × IsFrameRun sender js f run
-    run-frame front times run r = by_pieces r.pieces refl where
+    pub run-frame : (front : Option ℕ) (times : List Packets) (run : Run) → FirstBehind front times run.first → IsRun codec front times packets run → (f : ℕ) × IsFrameRun sender js f run
+    run-frame front times run first_behind r = by_pieces r.pieces refl where
       by_pieces : (xs : List Piece) → r.pieces ≡ xs → (f : ℕ) × IsFrameRun sender js f run
       by_pieces [] is =
           let to : run.first + length r.pieces ≡ run.last + 1 = r.to_last in
@@ -172,7 +179,7 @@ module _ (settings : Settings) (codec : Meaning) (sender : Sender) (js : List �
           let q = kept-there sender js run.first packets kept (ap is_some piece.media) in
           let there : (packet : SentPacket) × (slice_get sender.packets q.0 ≡ Some packet) × (at run.first packets ≡ Some (content_of packet)) = some_there (λ packet. at run.first packets ≡ Some (content_of packet)) (slice_get sender.packets q.0) q.2 in
           let s : IsSent settings codec sender honest q.0 = packet_sent settings codec sender honest q.0 there.0 there.1 in
-          (s.f, run_of_frame front times run r q.0 s p ps is q.1)
+          (s.f, run_of_frame front times run r q.0 s p ps first_behind is q.1)
 
   -- the pieces of parts, under these numbers
   abbrev pieces_of : ℕ → List Carried → List Piece
@@ -217,34 +224,39 @@ module _ (settings : Settings) (codec : Meaning) (sender : Sender) (js : List �
       last_marked (k + 1) (i + 1) (n + 1) last cs parts.1 (omega arith),
     )
 
-    -- the first alone is a start
-    first_starts : (front : Option ℕ) (times : List Packets) (k i n first : ℕ) (cs : List Carried) → AreParts settings codec sender f frame count k i cs → n ≡ first + k → AllByRecursion (λ p. (is_start front times p ≡ true) ↔ (p.number ≡ first)) (pieces_of n cs)
-    first_starts front times k i n first [] parts to = tt
-    first_starts front times k i n first (c ∷ cs) parts to = (either k refl, first_starts front times (k + 1) (i + 1) (n + 1) first cs parts.1 (omega arith)) where
-      behind : Bool
-      behind = is_passed front (n - 1) || began_behind times n
-
-      either : (m : ℕ) → k ≡ m → (begins c.part.start behind ≡ true) ↔ (n ≡ first)
-      either zero is =
-          let yes : c.part.start ≡ Yes = parts.0.start ∙ ap (λ (x : ℕ). if x == 0 then Yes else No) is in
-          (λ _. omega arith, λ _. ap (λ x. begins x behind) yes)
-      either (suc m) is =
-          let no : c.part.start ≡ No = parts.0.start ∙ ap (λ (x : ℕ). if x == 0 then Yes else No) is ∙ start_later m in
-          (λ s. absurd (true≢false (sym s ∙ ap (λ x. begins x behind) no)), λ same. absurd (omega arith))
-
     -- the first of them has no layers
     first_plain : (k i n : ℕ) (cs : List Carried) → AreParts settings codec sender f frame count k i cs → 0 < length cs → IsSomeAnd (slice_get (pieces_of n cs) 0) (λ p. None ≡ p.part.layers)
     first_plain k i n [] parts some = absurd (omega arith)
-    first_plain k i n (c ∷ cs) parts some = sym parts.0.layers
+    first_plain k i n (c ∷ cs) parts some = sym parts.0.media.layers
 
   -- the run of a frame from a number on
   abbrev pub frame_run : SentFrame → ℕ → List Carried → Run
   frame_run frame first parts = record { first = first; last = first + length parts - 1; ts = frame.ts; key = frame.key; layers = None; bytes = frame.bytes }
 
   module _ (honest : HonestSender settings codec sender) where
-    -- a frame each of whose packets is available is a run
-    pub frame-run : (front : Option ℕ) (times : List Packets) (f : ℕ) (frame : SentFrame) (first : ℕ) → slice_get sender.frames f ≡ Some frame → IsNumber sender js (honest.place f) first → ((n : ℕ) → first ≤ n → n < first + length (honest.parts f) → is_available n packets ≡ true) → IsRun codec front times packets (frame_run frame first (honest.parts f))
-    frame-run front times f frame first is numbered available =
+    -- the first part of a frame alone is a start
+    first_starts : (front : Option ℕ) (times : List Packets) (f : ℕ) (frame : SentFrame) (k i n first : ℕ) (cs : List Carried) → slice_get sender.frames f ≡ Some frame → FirstBehind honest front times first → ((c : Carried) → IsPart settings codec sender f frame (size settings codec sender honest f) 0 (honest.place f) c → begins c.part.start (is_behind front times first) ≡ true)
+        → AreParts settings codec sender f frame (size settings codec sender honest f) k i cs → k + length cs ≡ size settings codec sender honest f → i ≡ honest.place f + k → n ≡ first + k → IsNumber sender js i n → ((m : ℕ) → n ≤ m → m < n + length cs → is_available m packets ≡ true)
+        → AllByRecursion (λ p. (is_start front times p ≡ true) ↔ (p.number ≡ first)) (pieces_of n cs)
+    first_starts front times f frame k i n first [] there first_behind begin parts of at_i at_n numbered available = tt
+    first_starts front times f frame k i n first (c ∷ cs) there first_behind begin parts of at_i at_n numbered available = (
+      (λ s. let zeroth : k ≡ 0 = start_first honest front times first i n sent first_behind (omega arith) (available n (omega arith) (omega arith)) numbered s in omega arith, by_place k refl),
+      first_starts front times f frame (k + 1) (i + 1) (n + 1) first cs there first_behind begin parts.1 (omega arith) (omega arith) (omega arith) (number_later sender js i n 1 (i + 1) (n + 1) numbered refl refl) (λ m from upto. available m (omega arith) (omega arith)),
+    ) where
+      sent : IsSent settings codec sender honest i
+      sent = record { f = f; k = k; frame = frame; carried = c; sent = there; within = omega arith; here = omega arith; part = parts.0 }
+
+      by_place : (x : ℕ) → k ≡ x → n ≡ first → begins c.part.start (is_behind front times n) ≡ true
+      by_place zero is same =
+          let at_place : i ≡ honest.place f = omega arith in
+          ap (λ (m : ℕ). begins c.part.start (is_behind front times m)) same
+          ∙ begin c (subst (λ (x : ℕ). IsPart settings codec sender f frame (size settings codec sender honest f) x (honest.place f) c) is (subst (λ (x : ℕ). IsPart settings codec sender f frame (size settings codec sender honest f) k x c) at_place parts.0))
+      by_place (suc x) is same = absurd (omega arith)
+
+    -- a frame each of whose packets is available, and which begins with its first part, is a run
+    pub frame-run : (front : Option ℕ) (times : List Packets) (f : ℕ) (frame : SentFrame) (first : ℕ) → slice_get sender.frames f ≡ Some frame → FirstBehind honest front times first → ((c : Carried) → IsPart settings codec sender f frame (size settings codec sender honest f) 0 (honest.place f) c → begins c.part.start (is_behind front times first) ≡ true)
+        → IsNumber sender js (honest.place f) first → ((n : ℕ) → first ≤ n → n < first + length (honest.parts f) → is_available n packets ≡ true) → IsRun codec front times packets (frame_run frame first (honest.parts f))
+    frame-run front times f frame first is first_behind begin numbered available =
         let cs : List Carried = honest.parts f in
         let t : Travels settings codec sender f frame (honest.place f) cs = frame_travels settings codec sender honest f frame is in
         let some : 0 < length cs = t.some in
@@ -257,7 +269,7 @@ module _ (settings : Settings) (codec : Meaning) (sender : Sender) (js : List �
           to_last = omega arith;
           not_empty = omega arith;
           ts = All-from_recursion (λ p. p.packet.ts ≡ frame.ts) (pieces_of first cs) (one_ts f frame (length cs) 0 (honest.place f) first cs t.each);
-          start = All-from_recursion (λ p. (is_start front times p ≡ true) ↔ (p.number ≡ first)) (pieces_of first cs) (first_starts f frame (length cs) front times 0 (honest.place f) first first cs t.each (omega arith));
+          start = All-from_recursion (λ p. (is_start front times p ≡ true) ↔ (p.number ≡ first)) (pieces_of first cs) (first_starts front times f frame 0 (honest.place f) first first cs is first_behind begin t.each (omega arith) (omega arith) (omega arith) numbered available);
           marker = All-from_recursion (λ p. (p.packet.marker ≡ true) ↔ (p.number ≡ first + length cs - 1)) (pieces_of first cs) (last_marked f frame (length cs) 0 (honest.place f) first (first + length cs - 1) cs t.each (omega arith));
           key = (
             λ h. let c = t.key.0 h in list_any-from (λ p. p.part.key) (pieces_of first cs) (agree ∙ list_any-to (λ c. c.part.key) cs c.0 c.1 c.2),

@@ -71,11 +71,11 @@ front_moves (Some old) last packets all upto = ap (λ n. Some (reached n packets
 
 module _ (settings : Settings) (codec : Meaning) where
   -- a datagram leaves it so
-  datagram-plain : (s : Snapshot) (moment : ℕ) (octets : List ℕ) (v : Result (ℕ × Content) NotTaken) → verdict settings s.newest s.packets octets ≡ v → IsPlain s → IsPlain (after_datagram s moment v)
+  datagram-plain : (s : Snapshot) (moment : ℕ) (octets : List ℕ) (v : Result (ℕ × Content) NotTaken) → verdict settings codec s.newest s.packets octets ≡ v → IsPlain s → IsPlain (after_datagram s moment v)
   datagram-plain s moment octets (Err reason) is plain = record { media = plain.media; front = plain.front }
   datagram-plain s moment octets (Ok (n, content)) is plain =
       let newest : ℕ = newest_with s.newest n in
-      let one : is_no_media content ≡ false = ap is_no_media (verdict_taken settings s.newest s.packets octets n content is).1 in
+      let one : is_no_media content ≡ false = ap is_no_media (verdict_taken settings codec s.newest s.packets octets n content is).1 in
       let all : AllMedia (placed newest n content s.packets) = media-put n content (where_key nat_cmp (in_window newest) s.packets) one (media-where (in_window newest) s.packets plain.media) in
       record { media = all; front = front_stays s.front (last_pulled s.pulled) (placed newest n content s.packets) all plain.front }
 
@@ -98,7 +98,7 @@ module _ (settings : Settings) (codec : Meaning) where
   pub plain : (h : List Event) → IsPlain (latest (snapshots settings codec h))
   unfolding snapshots
   plain [] = record { media = tt; front = refl }
-  plain (Datagram moment octets ∷ h) = let s : Snapshot = latest (snapshots settings codec h) in datagram-plain s moment octets (verdict settings s.newest s.packets octets) refl (plain h)
+  plain (Datagram moment octets ∷ h) = let s : Snapshot = latest (snapshots settings codec h) in datagram-plain s moment octets (verdict settings codec s.newest s.packets octets) refl (plain h)
   plain (Tick moment ∷ h) = record { media = (plain h).media; front = (plain h).front }
   plain (Pull moment ∷ h) = pull-plain (latest (snapshots settings codec h)) moment (next_frame codec (snapshots settings codec h)) (given-later h) (plain h)
 

@@ -1,8 +1,8 @@
 -- The list of held packets, one by one.
 use Rattle.std.proofs.Common.{◌≡◌, ◌≢◌, ℕ, zero, suc, ◌+◌, ◌<◌, ◌≤◌, Bool, true, false, cond, List, [], ◌∷◌, ◌++◌, length, get_or, take, drop, insert, ◌-◌, refl, sym, ◌∙◌, ap, inl, inr, arith, add-one, drop-cons, append_assoc}
-use Rattle.std.specs.Prelude.{Option, Some, None, is_some, eqb, filter}
-use Rattle.std.specs.List.{flat_map}
-use Rattle.std.specs.Option.{option_map, option_or}
+use Rattle.std.specs.Prelude.{Option, Some, None, Ok, is_some, eqb, filter}
+use Rattle.std.specs.Result.{result_ok}
+use Rattle.std.specs.Option.{option_or}
 use Rattle.std.specs.Ordering.{nat_cmp, eq_by_cmp}
 use Rattle.std.specs.declared.cmp.Ordering.TheVariants.{Less, Equal, Greater}
 use Rattle.std.specs.FinMap.Entries.{by_order, put, where_key, is_sorted}
@@ -13,20 +13,17 @@ use Rattle.vrx_core.specs.Held.{entry_of, entries}
 use Rattle.vrx_core.specs.Window.{Content, Media, Packets, at, is_available, in_window, placed}
 use Rattle.vrx_core.specs.declared.settings.Settings.{Settings}
 use Rattle.vrx_core.specs.declared.reply.Frame.{Frame}
-use Rattle.vrx_rtp.specs.Packet.{Packet}
-use Rattle.vrx_core.specs.Step.{AreTaken, packet_in, key_in, due_length, next_run, body_in, last_of, joined}
-use Rattle.vrx_core.specs.Run.{◌>>=◌}
-use Rattle.vrx_core.proofs.EntryLemmas.{Above, Rising, rising_from, at_here, at_later}
+use Rattle.vrx_codec.specs.Meaning.{Meaning}
+use Rattle.vrx_core.specs.Step.{AreTaken, piece_in, says_key, join_of, due_run, next_run, last_of, joined}
+use Rattle.vrx_core.specs.Run.{Piece, ◌>>=◌}
+use Rattle.vrx_core.proofs.EntryLemmas.{Above, Rising, rising_from, at_here}
 
 -- the packet at an index, and those behind it
-dropped : (held : List Held) (i : ℕ) (p : Held) → i < length held → p ≡ get_or held i p → drop i held ≡ p ∷ drop (i + 1) held
+pub dropped : (held : List Held) (i : ℕ) (p : Held) → i < length held → p ≡ get_or held i p → drop i held ≡ p ∷ drop (i + 1) held
 dropped held i p within here = rw (add-one, drop-cons held i p) (ap (λ q. q ∷ drop (suc i) held) (sym here))
 
 pub available-here : (held : List Held) (i n : ℕ) (p : Held) → i < length held → p ≡ get_or held i p → p.number ≡ n → is_available n (entries (drop i held)) ≡ true
 available-here held i n p within here same = ap (λ xs. is_available n (entries xs)) (dropped held i p within here) ∙ ap (λ k. is_available k (entries (p ∷ drop (i + 1) held))) (sym same) ∙ ap is_some (at_here (entry_of p) (entries (drop (i + 1) held)))
-
-pub available-later : (held : List Held) (i n : ℕ) (p : Held) → i < length held → p ≡ get_or held i p → (p.number ≡ n → ⊥) → is_available n (entries (drop i held)) ≡ is_available n (entries (drop (i + 1) held))
-available-later held i n p within here apart = ap (λ xs. is_available n (entries xs)) (dropped held i p within here) ∙ ap is_some (at_later n (entry_of p) (entries (drop (i + 1) held)) (λ same. apart (sym same)))
 
 -- putting a number that is smaller than the next key, or greater
 put_before : (n : ℕ) (c : Content) (e : ℕ × Content) (es : Packets) → n < e.0 → put nat_cmp n c (e ∷ es) ≡ (n, c) ∷ e ∷ es
@@ -121,32 +118,33 @@ placed-insert newest held inserted kept i p sorted inside is here filtered = ap 
     ∙ ap (where_key nat_cmp (in_window newest)) (entries-insert held i p ∙ sym here) ∙ keep-put (in_window newest) p.number (Media p.text) (entries held) (rising_from (entries held) sorted) inside
 
 -- the first of some taken packets were taken
-pub taken-take : (settings : Settings) (n : ℕ) (held : List Held) → AreTaken settings (entries held) → AreTaken settings (entries (take n held))
-taken-take settings zero held taken = tt
-taken-take settings (suc n) [] taken = tt
-taken-take settings (suc n) (p ∷ held) taken = (taken.0, taken-take settings n held taken.1)
+pub taken-take : (settings : Settings) (codec : Meaning) (n : ℕ) (held : List Held) → AreTaken settings codec (entries held) → AreTaken settings codec (entries (take n held))
+taken-take settings codec zero held taken = tt
+taken-take settings codec (suc n) [] taken = tt
+taken-take settings codec (suc n) (p ∷ held) taken = (taken.0, taken-take settings codec n held taken.1)
 
 -- taken packets from one place on, without the first of them, were taken
-taken-later : (settings : Settings) (i : ℕ) (held : List Held) → AreTaken settings (entries (drop i held)) → AreTaken settings (entries (drop (suc i) held))
-taken-later settings zero [] taken = tt
-taken-later settings zero (p ∷ held) taken = taken.1
-taken-later settings (suc i) [] taken = tt
-taken-later settings (suc i) (p ∷ held) taken = taken-later settings i held taken
+taken-later : (settings : Settings) (codec : Meaning) (i : ℕ) (held : List Held) → AreTaken settings codec (entries (drop i held)) → AreTaken settings codec (entries (drop (suc i) held))
+taken-later settings codec zero [] taken = tt
+taken-later settings codec zero (p ∷ held) taken = taken.1
+taken-later settings codec (suc i) [] taken = tt
+taken-later settings codec (suc i) (p ∷ held) taken = taken-later settings codec i held taken
 
 -- the same by the number of the next place
-pub taken-next : (settings : Settings) (i : ℕ) (held : List Held) → AreTaken settings (entries (drop i held)) → AreTaken settings (entries (drop (i + 1) held))
-taken-next settings i held taken = rw add-one (taken-later settings i held taken)
+pub taken-next : (settings : Settings) (codec : Meaning) (i : ℕ) (held : List Held) → AreTaken settings codec (entries (drop i held)) → AreTaken settings codec (entries (drop (i + 1) held))
+taken-next settings codec i held taken = rw add-one (taken-later settings codec i held taken)
 
--- where no run that is due begins at a place, the next run is that of the packets behind it
-next-later : (pulled : Option ℕ) (i : ℕ) (held : List Held) → due_length pulled (entries (drop i held)) ≡ None → next_run pulled (entries (drop (suc i) held)) ≡ next_run pulled (entries (drop i held))
-next-later pulled zero [] none = refl
-next-later pulled zero (p ∷ held) none = sym (ap (λ o. option_or (option_map (λ n. take n (entries (p ∷ held))) o) (next_run pulled (entries held))) none)
-next-later pulled (suc i) [] none = refl
-next-later pulled (suc i) (p ∷ held) none = next-later pulled i held none
+module _ (codec : Meaning) (starts : Piece → Bool) (pulled : Option ℕ) where
+  -- where no run that is due begins at a place, the next run is that of the packets behind it
+  next-later : (i : ℕ) (held : List Held) → due_run codec starts pulled (entries (drop i held)) ≡ None → next_run codec starts pulled (entries (drop (suc i) held)) ≡ next_run codec starts pulled (entries (drop i held))
+  next-later zero [] none = refl
+  next-later zero (p ∷ held) none = sym (ap (λ o. option_or o (next_run codec starts pulled (entries held))) none)
+  next-later (suc i) [] none = refl
+  next-later (suc i) (p ∷ held) none = next-later i held none
 
--- the same by the number of the next place
-pub next-behind : (pulled : Option ℕ) (i : ℕ) (held : List Held) → due_length pulled (entries (drop i held)) ≡ None → next_run pulled (entries (drop (i + 1) held)) ≡ next_run pulled (entries (drop i held))
-next-behind pulled i held none = rw add-one (next-later pulled i held none)
+  -- the same by the number of the next place
+  pub next-behind : (i : ℕ) (held : List Held) → due_run codec starts pulled (entries (drop i held)) ≡ None → next_run codec starts pulled (entries (drop (i + 1) held)) ≡ next_run codec starts pulled (entries (drop i held))
+  next-behind i held none = rw add-one (next-later i held none)
 
 -- the number of the last packet
 last-held : (p : Held) (held : List Held) (d : Held) → last_of (entry_of p) (entries held) ≡ (get_or (p ∷ held) (length held) d).number
@@ -154,15 +152,14 @@ last-held p [] d = refl
 last-held p (q ∷ held) d = last-held q held d
 
 -- what the packets of a run join to, from its first and last packet and its octets
-pub joined-held : (run : List Held) (a b d k : Held) (packet : Packet) (key : Bool) (bytes : List ℕ) → 0 < length run → packet_in (entry_of (get_or run 0 a)) ≡ Some packet → key ≡ key_in (entry_of (get_or run 0 k)) → bytes ≡ flat_map body_in (entries run)
-    → joined (entries run) ≡ Some (record { first = (get_or run 0 b).number; last = (get_or run (length run - 1) d).number; ts = packet.ts; key = key; bytes = bytes })
-joined-held [] a b d k packet key bytes some reads says is = absurd (omega arith)
-joined-held (p ∷ held) a b d k packet key bytes some reads says is =
+pub joined-held : (codec : Meaning) (run : List Held) (a b d : Held) (piece : Piece) (key : Bool) (bytes : List ℕ) → 0 < length run → piece_in codec (entry_of (get_or run 0 a)) ≡ Some piece → key ≡ says_key codec (entries run) → join_of codec (entries run) ≡ Ok bytes
+    → joined codec (entries run) ≡ Some (record { first = (get_or run 0 b).number; last = (get_or run (length run - 1) d).number; ts = piece.packet.ts; key = key; bytes = bytes })
+joined-held codec [] a b d piece key bytes some reads says is = absurd (omega arith)
+joined-held codec (p ∷ held) a b d piece key bytes some reads says is =
     let size : length held ≡ length (p ∷ held) - 1 = omega arith in
-    let said : Bool = key_in (entry_of p) in
-    ap (λ o. o >>= λ q. Some (made (last_of (entry_of p) (entries held)) q.ts said (flat_map body_in (entries (p ∷ held))))) reads
-    ∙ ap (λ n. Some (made n packet.ts said (flat_map body_in (entries (p ∷ held))))) (last-held p held d ∙ ap (λ j. (get_or (p ∷ held) j d).number) size)
-    ∙ ap (λ b. Some (made (get_or (p ∷ held) (length (p ∷ held) - 1) d).number packet.ts b (flat_map body_in (entries (p ∷ held))))) (sym says)
-    ∙ ap (λ bs. Some (made (get_or (p ∷ held) (length (p ∷ held) - 1) d).number packet.ts key bs)) (sym is) where
+    ap (λ o. o >>= λ q. result_ok (join_of codec (entries (p ∷ held))) >>= λ bs. Some (made (last_of (entry_of p) (entries held)) q.packet.ts (says_key codec (entries (p ∷ held))) bs)) reads
+    ∙ ap (λ r. result_ok r >>= λ bs. Some (made (last_of (entry_of p) (entries held)) piece.packet.ts (says_key codec (entries (p ∷ held))) bs)) is
+    ∙ ap (λ n. Some (made n piece.packet.ts (says_key codec (entries (p ∷ held))) bytes)) (last-held p held d ∙ ap (λ j. (get_or (p ∷ held) j d).number) size)
+    ∙ ap (λ b. Some (made (get_or (p ∷ held) (length (p ∷ held) - 1) d).number piece.packet.ts b bytes)) (sym says) where
       made : (last ts : ℕ) (key : Bool) (bytes : List ℕ) → Frame
       made last ts is_key bs = record { first = p.number; last = last; ts = ts; key = is_key; bytes = bs }

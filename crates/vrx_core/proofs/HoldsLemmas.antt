@@ -1,17 +1,18 @@
 -- What holds of the machine's state after each event of an honest call.
 use Rattle.std.proofs.Common.{◌≡◌, ℕ, ◌+◌, ◌<◌, ◌≤◌, true, if◌then◌else◌, List, [], ◌∷◌, slice_get, Contains, inl, inr, Option, Some, None, IfSome, IsSomeAnd, is_ok, Result, Ok, Err, refl, sym, ◌∙◌, ap, subst, arith}
+use Rattle.std.specs.List.{AllByRecursion}
 use Rattle.std.proofs.lemmas.Bool.{lt-ltb, ltb-true}
 use Rattle.std.proofs.lemmas.Option.{slice_get_within}
 use Rattle.vrx_num.specs.Extended.{extended}
 use Rattle.vrx_codec.specs.Meaning.{Meaning}
-use Rattle.vrx_core.specs.Window.{Content}
+use Rattle.vrx_core.specs.Window.{Content, newest_with, placed}
 use Rattle.vrx_core.specs.Window as window
 use Rattle.vrx_core.specs.Form.{is_aside}
 use Rattle.vrx_core.specs.Text.{text_in}
 use Rattle.vrx_core.specs.Verdict.{number_of, verdict}
 use Rattle.vrx_core.specs.Run.{Run}
 use Rattle.vrx_core.specs.Deliverable.{stands}
-use Rattle.vrx_core.specs.Machine.{Snapshot, latest, last_pulled, after_datagram, after_tick, after_pull}
+use Rattle.vrx_core.specs.Machine.{Snapshot, opening, latest, last_pulled, after_datagram, after_tick, after_pull}
 use Rattle.vrx_core.specs.Sender.{SentFrame, Sender, wire_of}
 use Rattle.vrx_core.specs.WireForm.{content_of}
 use Rattle.vrx_core.specs.HonestSender.{Travels, HonestSender}
@@ -55,13 +56,24 @@ module _ (settings : Settings) (codec : Meaning) (sender : Sender) (honest : Hon
   abbrev pub Closed : List ℕ → Type 0
   Closed fs = (f g : ℕ) → Contains fs f → InChain sender f g → Contains fs g
 
-  -- the newest number, the packets kept and the frames pulled are the sender's, after these packets were taken; the frames
-  -- pulled have these places, and are closed under their chains
-  pub record Holds (s : Snapshot) (js fs : List ℕ) : Type 0 where
-    pub newest : IsNewestOf sender js s.newest
-    pub kept : AreKept sender js s.packets
-    pub pulled : ArePulled js fs s.pulled
+  -- what was kept at the end of each event so far is the sender's
+  abbrev pub WereKept : List ℕ → List Snapshot → Type 0
+  WereKept js past = AllByRecursion (λ t. AreKept sender js t.packets) past
+
+  -- the newest number, the packets kept and the frames pulled are the sender's, after these packets were taken, and
+  -- so were the packets kept at each earlier time; the frames pulled have these places, and are closed under their
+  -- chains
+  pub record Holds (past : List Snapshot) (js fs : List ℕ) : Type 0 where
+    pub newest : IsNewestOf sender js (latest past).newest
+    pub kept : AreKept sender js (latest past).packets
+    pub were : WereKept js past
+    pub pulled : ArePulled js fs (latest past).pulled
     pub closed : Closed fs
+
+  -- what was kept stays the sender's when one more packet is taken
+  were_grown : (i : ℕ) (js : List ℕ) (past : List Snapshot) → WereKept js past → WereKept (i ∷ js) past
+  were_grown i js [] were = tt
+  were_grown i js (t ∷ past) were = (grown-kept sender js i t.packets were.0, were_grown i js past were.1)
 
   -- the frames pulled stay the sender's when one more packet is taken
   pulled_grown : (i : ℕ) (js fs : List ℕ) (frames : List Frame) → ArePulled js fs frames → ArePulled (i ∷ js) fs frames
@@ -103,60 +115,66 @@ module _ (settings : Settings) (codec : Meaning) (sender : Sender) (honest : Hon
       omega arith
 
   -- before the first event
-  pub opening-holds : Holds (latest []) [] []
-  opening-holds = record { newest = refl; kept = tt; pulled = tt; closed = λ f g c way. absurd (Contains-empty f c) }
+  pub opening-holds : Holds (opening ∷ []) [] []
+  opening-holds = record { newest = refl; kept = tt; were = (tt, tt); pulled = tt; closed = λ f g c way. absurd (Contains-empty f c) }
 
   -- the entry of a datagram that is taken
-  taken-kept : (js : List ℕ) (i n : ℕ) (octets : List ℕ) (content : Content) → Brings settings sender i octets → content ≡ window.Media (text_in octets) → IsNumber sender js i n → IsKept sender js (n, content)
+  taken-kept : (js : List ℕ) (i n : ℕ) (octets : List ℕ) (content : Content) → Brings settings codec sender i octets → content ≡ window.Media (text_in octets) → IsNumber sender js i n → IsKept sender js (n, content)
   taken-kept js i n octets content b media numbered = record {
     place = i;
     carried = subst (λ (c : Content). IsSomeAnd (slice_get sender.packets i) (λ packet. c ≡ content_of packet)) (sym media) b.carried;
     numbered = numbered;
   }
 
-  module _ (s : Snapshot) (js fs : List ℕ) (h : Holds s js fs) (moment : ℕ) where
+  module _ (past : List Snapshot) (js fs : List ℕ) (h : Holds past js fs) (moment : ℕ) where
+    -- what stands now
+    abbrev s : Snapshot
+    s = latest past
+
     -- a refused datagram changes nothing of it
-    refused-holds : (left : NotTaken) → Holds (after_datagram s moment (Err left)) js fs
-    refused-holds left = record { newest = h.newest; kept = h.kept; pulled = h.pulled; closed = h.closed }
+    refused-holds : (left : NotTaken) → Holds (after_datagram s moment (Err left) ∷ past) js fs
+    refused-holds left = record { newest = h.newest; kept = h.kept; were = (h.kept, h.were); pulled = h.pulled; closed = h.closed }
 
     -- octets of another form are refused
-    pub form-holds : (octets : List ℕ) → is_aside settings octets ≡ true → Holds (after_datagram s moment (verdict settings s.newest s.packets octets)) js fs
-    form-holds octets form = subst (λ (r : Result (ℕ × Content) NotTaken). Holds (after_datagram s moment r) js fs) (sym (verdict_aside settings s.newest s.packets octets form).1) (refused-holds (verdict_aside settings s.newest s.packets octets form).0)
+    pub form-holds : (octets : List ℕ) → is_aside settings codec octets ≡ true → Holds (after_datagram s moment (verdict settings codec s.newest s.packets octets) ∷ past) js fs
+    form-holds octets form = subst (λ (r : Result (ℕ × Content) NotTaken). Holds (after_datagram s moment r ∷ past) js fs) (sym (verdict_aside settings codec s.newest s.packets octets form).1) (refused-holds (verdict_aside settings codec s.newest s.packets octets form).0)
 
     -- the extended number of a sender's packet that is taken
-    taken-extended : (i n : ℕ) (octets : List ℕ) → Brings settings sender i octets → number_of s.newest octets ≡ Some n → extended s.newest (wire_of sender i) ≡ Some n
+    taken-extended : (i n : ℕ) (octets : List ℕ) → Brings settings codec sender i octets → number_of s.newest octets ≡ Some n → extended s.newest (wire_of sender i) ≡ Some n
     taken-extended i n octets b is = sym (number_of-text s.newest octets b.packet (wire_of sender i) b.reads b.number) ∙ is
 
     -- a sender's datagram that is near those taken, whatever the verdict
-    brought-holds : (i : ℕ) (octets : List ℕ) → Brings settings sender i octets → IsNear i js → (r : Result (ℕ × Content) NotTaken) → verdict settings s.newest s.packets octets ≡ r → Holds (after_datagram s moment r) (if is_ok r then i ∷ js else js) fs
+    brought-holds : (i : ℕ) (octets : List ℕ) → Brings settings codec sender i octets → IsNear i js → (r : Result (ℕ × Content) NotTaken) → verdict settings codec s.newest s.packets octets ≡ r → Holds (after_datagram s moment r ∷ past) (if is_ok r then i ∷ js else js) fs
     brought-holds i octets b near (Err reason) is = refused-holds reason
     brought-holds i octets b near (Ok (n, content)) is =
-        let took : (number_of s.newest octets ≡ Some n) × (content ≡ window.Media (text_in octets)) = verdict_taken settings s.newest s.packets octets n content is in
+        let took : (number_of s.newest octets ≡ Some n) × (content ≡ window.Media (text_in octets)) = verdict_taken settings codec s.newest s.packets octets n content is in
         let number : extended s.newest (wire_of sender i) ≡ Some n = taken-extended i n octets b took.0 in
+        let kept : AreKept sender (i ∷ js) (placed (newest_with s.newest n) n content s.packets) = placed-kept sender (i ∷ js) _ n content s.packets
+        (taken-kept (i ∷ js) i n octets content b took.1 (taken-number sender js s.newest i n h.newest near number))
+        (grown-kept sender js i s.packets h.kept) in
         record {
           newest = taken-newest sender js s.newest i n h.newest near number;
-          kept = placed-kept sender (i ∷ js) _ n content s.packets
-              (taken-kept (i ∷ js) i n octets content b took.1 (taken-number sender js s.newest i n h.newest near number))
-              (grown-kept sender js i s.packets h.kept);
+          kept = kept;
+          were = (kept, were_grown i js past h.were);
           pulled = pulled_grown i js fs s.pulled h.pulled;
           closed = h.closed;
         }
 
     -- a sender's datagram that is near those taken
-    pub datagram-holds : (i : ℕ) (octets : List ℕ) → Brings settings sender i octets → IsNear i js → Holds (after_datagram s moment (verdict settings s.newest s.packets octets)) (if is_ok (verdict settings s.newest s.packets octets) then i ∷ js else js) fs
-    datagram-holds i octets b near = brought-holds i octets b near (verdict settings s.newest s.packets octets) refl
+    pub datagram-holds : (i : ℕ) (octets : List ℕ) → Brings settings codec sender i octets → IsNear i js → Holds (after_datagram s moment (verdict settings codec s.newest s.packets octets) ∷ past) (if is_ok (verdict settings codec s.newest s.packets octets) then i ∷ js else js) fs
+    datagram-holds i octets b near = brought-holds i octets b near (verdict settings codec s.newest s.packets octets) refl
 
     -- a tick
-    pub tick-holds : Holds (after_tick s moment) js fs
-    tick-holds = record { newest = h.newest; kept = h.kept; pulled = h.pulled; closed = h.closed }
+    pub tick-holds : Holds (after_tick s moment ∷ past) js fs
+    tick-holds = record { newest = h.newest; kept = h.kept; were = (h.kept, h.were); pulled = h.pulled; closed = h.closed }
 
     -- a pull that gives nothing
-    pub none-holds : Holds (after_pull s moment None) js fs
-    none-holds = record { newest = h.newest; kept = h.kept; pulled = h.pulled; closed = h.closed }
+    pub none-holds : Holds (after_pull s moment None ∷ past) js fs
+    none-holds = record { newest = h.newest; kept = h.kept; were = (h.kept, h.were); pulled = h.pulled; closed = h.closed }
 
     -- a pull that gives a frame, whose chain was pulled
-    pub frame-holds : (frame : Frame) (f : ℕ) → IsPulled js f frame → ((g : ℕ) → InChain sender f g → Contains fs g) → Holds (after_pull s moment (Some frame)) js (f ∷ fs)
-    frame-holds frame f is chain = record { newest = h.newest; kept = h.kept; pulled = (is, h.pulled); closed = closed } where
+    pub frame-holds : (frame : Frame) (f : ℕ) → IsPulled js f frame → ((g : ℕ) → InChain sender f g → Contains fs g) → Holds (after_pull s moment (Some frame) ∷ past) js (f ∷ fs)
+    frame-holds frame f is chain = record { newest = h.newest; kept = h.kept; were = (h.kept, h.were); pulled = (is, h.pulled); closed = closed } where
       closed : Closed (f ∷ fs)
       closed k g there way = elim (Contains-either f fs k there) [
         | inl same ↦ Contains-tail f fs g (chain g (subst (λ (x : ℕ). InChain sender x g) (sym same) way))

@@ -20,7 +20,7 @@ use Rattle.vrx_core.proofs.AnswerLemmas.{answer-given}
 use Rattle.vrx_core.proofs.TakenLemmas.{brings}
 use Rattle.vrx_core.proofs.TextLemmas.{ReadsPacket}
 use Rattle.vrx_core.proofs.HoldsLemmas.{Holds, bound_of, opening-holds, form-holds, datagram-holds, tick-holds, none-holds, frame-holds}
-use Rattle.vrx_core.proofs.ReadyLemmas.{runs_now, pulled_now, front_now, frame_is, none_ready, answer_least, answer_sent, answer_later, answer_pulled, answer_key, answer_chain, answer_references}
+use Rattle.vrx_core.proofs.ReadyLemmas.{deliverable-stands, runs_now, pulled_now, front_now, frame_is, none_ready, answer_least, answer_sent, answer_later, answer_pulled, answer_key, answer_chain, answer_references}
 
 -- places that rise strictly, from this bound on
 abbrev RiseFrom : ℕ → List ℕ → Type 0
@@ -51,7 +51,7 @@ Gives sender bound fs after _ _ = ⊥
 module _ (settings : Settings) (codec : Meaning) (sender : Sender) (honest : HonestSender settings codec sender) where
   -- what held after a history
   abbrev HoldsAt : List Event → List Origin → List ℕ → Type 0
-  HoldsAt h origins fs = Holds settings codec sender honest (latest (snapshots settings codec h)) (taken settings codec h origins) fs
+  HoldsAt h origins fs = Holds settings codec sender honest (snapshots settings codec h) (taken settings codec h origins) fs
 
   -- the place from which a frame may come
   abbrev bound : List ℕ → ℕ
@@ -81,7 +81,7 @@ module _ (settings : Settings) (codec : Meaning) (sender : Sender) (honest : Hon
     sent_step law moment octets i holds delivery = record {
       after = fs;
       place = None;
-      holds = datagram-holds settings codec sender honest (latest (snapshots settings codec h)) (taken settings codec h origins) fs holds moment i octets (brings law settings codec sender honest i octets delivery.0) delivery.1;
+      holds = datagram-holds settings codec sender honest (snapshots settings codec h) (taken settings codec h origins) fs holds moment i octets (brings law settings codec sender honest i octets delivery.0) delivery.1;
       answer = tt;
       gives = refl;
     }
@@ -92,7 +92,7 @@ module _ (settings : Settings) (codec : Meaning) (sender : Sender) (honest : Hon
     other_step moment octets holds form = record {
       after = fs;
       place = None;
-      holds = form-holds settings codec sender honest (latest (snapshots settings codec h)) (taken settings codec h origins) fs holds moment octets form;
+      holds = form-holds settings codec sender honest (snapshots settings codec h) (taken settings codec h origins) fs holds moment octets form;
       answer = tt;
       gives = refl;
     }
@@ -103,7 +103,7 @@ module _ (settings : Settings) (codec : Meaning) (sender : Sender) (honest : Hon
     tick_step moment holds = record {
       after = fs;
       place = None;
-      holds = tick-holds settings codec sender honest (latest (snapshots settings codec h)) (taken settings codec h origins) fs holds moment;
+      holds = tick-holds settings codec sender honest (snapshots settings codec h) (taken settings codec h origins) fs holds moment;
       answer = tt;
       gives = refl;
     }
@@ -121,7 +121,7 @@ module _ (settings : Settings) (codec : Meaning) (sender : Sender) (honest : Hon
           record {
             after = fs;
             place = None;
-            holds = subst (λ (o : Option Frame). Holds settings codec sender honest (after_pull (latest (snapshots settings codec h)) moment o) (taken settings codec h origins) fs) (sym is) (none-holds settings codec sender honest (latest (snapshots settings codec h)) (taken settings codec h origins) fs holds moment);
+            holds = subst (λ (o : Option Frame). Holds settings codec sender honest (after_pull (latest (snapshots settings codec h)) moment o ∷ snapshots settings codec h) (taken settings codec h origins) fs) (sym is) (none-holds settings codec sender honest (snapshots settings codec h) (taken settings codec h origins) fs holds moment);
             answer = subst (λ (o : Option Frame). IsAnswer settings codec sender h origins (Pull moment) (ToPull (pulled_of o)) None) (sym is) (λ f ready. none_ready settings codec sender honest h origins fs holds none f ready);
             gives = subst (λ (o : Option Frame). Gives sender (bound fs) fs fs None (ToPull (pulled_of o))) (sym is) refl;
           }
@@ -133,12 +133,12 @@ module _ (settings : Settings) (codec : Meaning) (sender : Sender) (honest : Hon
           let is : next_frame codec (snapshots settings codec h) ≡ Some (frame_of run) = ap (option_map frame_of) given in
           let s : Snapshot = latest (snapshots settings codec h) in
           let there = answer-given (pulled_now settings codec sender honest h origins) (front_now settings codec sender honest h origins) (runs_now settings codec sender honest h origins) run given in
-          let p : (f : ℕ) × IsFrameRun sender (taken settings codec h origins) f run = frame_is settings codec sender honest h origins fs holds run there.0 in
+          let p : (f : ℕ) × IsFrameRun sender (taken settings codec h origins) f run = frame_is settings codec sender honest h origins fs holds run there.0 (deliverable-stands _ _ run there.1) in
           let chain : (g : ℕ) → InChain sender p.0 g → Contains fs g = answer_chain settings codec sender honest h origins fs holds run given p.0 p.1 in
           record {
             after = p.0 ∷ fs;
             place = Some p.0;
-            holds = subst (λ (o : Option Frame). Holds settings codec sender honest (after_pull s moment o) (taken settings codec h origins) (p.0 ∷ fs)) (sym is) (frame-holds settings codec sender honest s (taken settings codec h origins) fs holds moment (frame_of run) p.0 (answer_pulled settings codec sender honest h origins fs holds run given p.0 p.1) chain);
+            holds = subst (λ (o : Option Frame). Holds settings codec sender honest (after_pull s moment o ∷ snapshots settings codec h) (taken settings codec h origins) (p.0 ∷ fs)) (sym is) (frame-holds settings codec sender honest (snapshots settings codec h) (taken settings codec h origins) fs holds moment (frame_of run) p.0 (answer_pulled settings codec sender honest h origins fs holds run given p.0 p.1) chain);
             answer = subst (λ (o : Option Frame). IsAnswer settings codec sender h origins (Pull moment) (ToPull (pulled_of o)) (Some p.0)) (sym is) (answer_least settings codec sender honest h origins fs holds run given p.0 p.1);
             gives = subst (λ (o : Option Frame). Gives sender (bound fs) fs (p.0 ∷ fs) (Some p.0) (ToPull (pulled_of o))) (sym is) (
               answer_later settings codec sender honest h origins fs holds run given p.0 p.1,

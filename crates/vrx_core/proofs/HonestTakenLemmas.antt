@@ -43,35 +43,35 @@ ok_value (Err reason) h = absurd (cc)
 newest-number : (sender : Sender) (i : ℕ) (js : List ℕ) (m : ℕ) → IsNewestOf sender (i ∷ js) (Some m) → IsNumber sender (i ∷ js) (greatest (i ∷ js)) m
 newest-number sender i js m is = subst (λ (x : ℕ). IsNumber sender (i ∷ js) (greatest (i ∷ js)) x) (sym (same_Some m is.0 is.1)) is.3
 
-module _ (settings : Settings) (sender : Sender) (s : Snapshot) (i : ℕ) (octets : List ℕ) (b : Brings settings sender i octets) where
+module _ (settings : Settings) (codec : Meaning) (sender : Sender) (s : Snapshot) (i : ℕ) (octets : List ℕ) (b : Brings settings codec sender i octets) where
   -- the number of a sender's datagram
   brought-number : number_of s.newest octets ≡ extended s.newest (wire_of sender i)
   brought-number = number_of-text s.newest octets b.packet (wire_of sender i) b.reads b.number
 
   -- what is kept after a sender's datagram that is near those taken, whatever the verdict
-  brought-keeps : (js : List ℕ) (moment : ℕ) → IsNewestOf sender js s.newest → Keeps sender js s.packets → IsNear i js → (r : Result (ℕ × Content) NotTaken) → verdict settings s.newest s.packets octets ≡ r → Keeps sender (if is_ok r then i ∷ js else js) (after_datagram s moment r).packets
+  brought-keeps : (js : List ℕ) (moment : ℕ) → IsNewestOf sender js s.newest → Keeps sender js s.packets → IsNear i js → (r : Result (ℕ × Content) NotTaken) → verdict settings codec s.newest s.packets octets ≡ r → Keeps sender (if is_ok r then i ∷ js else js) (after_datagram s moment r).packets
   brought-keeps js moment newest keeps near (Err reason) is = keeps
   brought-keeps js moment newest keeps near (Ok (n, content)) is =
-      let given : extended s.newest (wire_of sender i) ≡ Some n = sym brought-number ∙ (verdict_taken settings s.newest s.packets octets n content is).0 in
+      let given : extended s.newest (wire_of sender i) ≡ Some n = sym brought-number ∙ (verdict_taken settings codec s.newest s.packets octets n content is).0 in
       let fresh : IsNewestOf sender (i ∷ js) (Some (newest_with s.newest n)) = taken-newest sender js s.newest i n newest near given in
       placed-keeps sender js s.packets keeps i (newest_with s.newest n) n content (taken-number sender js s.newest i n newest near given)
       (newest-number sender i js (newest_with s.newest n) fresh)
-      (open-newest s.newest n (verdict_open settings s.newest s.packets octets n content is).0)
+      (open-newest s.newest n (verdict_open settings codec s.newest s.packets octets n content is).0)
 
   -- the answer to a sender's datagram that is near those taken, where it is taken, is its packet's number
-  brought-answer : (js : List ℕ) → IsNewestOf sender js s.newest → IsNear i js → is_ok (verdict settings s.newest s.packets octets) ≡ true → (n : ℕ) × IsNumber sender (i ∷ js) i n × (what_of (verdict settings s.newest s.packets octets) ≡ Media n)
+  brought-answer : (js : List ℕ) → IsNewestOf sender js s.newest → IsNear i js → is_ok (verdict settings codec s.newest s.packets octets) ≡ true → (n : ℕ) × IsNumber sender (i ∷ js) i n × (what_of (verdict settings codec s.newest s.packets octets) ≡ Media n)
   brought-answer js newest near h =
-      let x : (x : ℕ × Content) × (verdict settings s.newest s.packets octets ≡ Ok x) = ok_value (verdict settings s.newest s.packets octets) h in
-      let given : extended s.newest (wire_of sender i) ≡ Some x.0.0 = sym brought-number ∙ (verdict_taken settings s.newest s.packets octets x.0.0 x.0.1 x.1).0 in
+      let x : (x : ℕ × Content) × (verdict settings codec s.newest s.packets octets ≡ Ok x) = ok_value (verdict settings codec s.newest s.packets octets) h in
+      let given : extended s.newest (wire_of sender i) ≡ Some x.0.0 = sym brought-number ∙ (verdict_taken settings codec s.newest s.packets octets x.0.0 x.0.1 x.1).0 in
       (x.0.0, taken-number sender js s.newest i x.0.0 newest near given, ap what_of x.1)
 
   -- the first packet is taken
-  first-taken : Keeps sender [] s.packets → s.newest ≡ None → is_ok (verdict settings s.newest s.packets octets) ≡ true
+  first-taken : Keeps sender [] s.packets → s.newest ≡ None → is_ok (verdict settings codec s.newest s.packets octets) ≡ true
   first-taken keeps none =
       let n : ℕ = wire_of sender i + 65536 in
       let number : number_of s.newest octets ≡ Some n = brought-number ∙ ap (λ (o : Option ℕ). extended o (wire_of sender i)) none in
       let old : is_too_old s.newest n ≡ false = ap (λ (o : Option ℕ). is_too_old o n) none in
-      ap is_ok (verdict_take settings s.newest s.packets octets n b.form number old (nothing sender s.packets n keeps))
+      ap is_ok (verdict_take settings codec s.newest s.packets octets n b.form number old (nothing sender s.packets n keeps))
 
   module _ (j : ℕ) (js : List ℕ) (m : ℕ) (newest : s.newest ≡ Some m) (from : 65536 ≤ m) (number : IsNumber sender (j ∷ js) (greatest (j ∷ js)) m) (keeps : Keeps sender (j ∷ js) s.packets) (near : IsNear i (j ∷ js)) where
     -- the number of a sender's datagram beside the newest
@@ -79,25 +79,25 @@ module _ (settings : Settings) (sender : Sender) (s : Snapshot) (i : ℕ) (octet
     later-number = brought-number ∙ ap (λ (o : Option ℕ). extended o (wire_of sender i)) newest
 
     -- a later packet that is one to take is taken
-    later-taken : IsToTake i (j ∷ js) → is_ok (verdict settings s.newest s.packets octets) ≡ true
+    later-taken : IsToTake i (j ∷ js) → is_ok (verdict settings codec s.newest s.packets octets) ≡ true
     later-taken to_take =
         let e : (n : ℕ) × IsNumber sender (j ∷ js) i n × Extends m (wire_of sender i) n = is_number-extends sender j js m i from number to_take.0 to_take.1 in
         let given : number_of s.newest octets ≡ Some e.0 = later-number ∙ extended-extends (omega arith) (wire_below sender i) e.2 in
         let less : m < e.0 + 2048 = near-number sender (j ∷ js) i (greatest (j ∷ js)) e.0 m 2048 e.1 number to_take.1 in
         let old : is_too_old s.newest e.0 ≡ false = ap (λ (o : Option ℕ). is_too_old o e.0) newest ∙ lt-leb (e.0 + 2048) m less in
         let again : is_available e.0 s.packets ≡ false = false_from_ne_true _ (λ h. to_take.2 (subst (λ (x : ℕ). Contains (j ∷ js) x) (one-place sender (j ∷ js) (keeps.from e.0 h).0 i e.0 (keeps.from e.0 h).2 e.1) (keeps.from e.0 h).1)) in
-        ap is_ok (verdict_take settings s.newest s.packets octets e.0 b.form given old again)
+        ap is_ok (verdict_take settings codec s.newest s.packets octets e.0 b.form given old again)
 
     -- a later packet that is taken is one to take
-    later-to_take : is_ok (verdict settings s.newest s.packets octets) ≡ true → IsToTake i (j ∷ js)
+    later-to_take : is_ok (verdict settings codec s.newest s.packets octets) ≡ true → IsToTake i (j ∷ js)
     later-to_take h =
-        let x : (x : ℕ × Content) × (verdict settings s.newest s.packets octets ≡ Ok x) = ok_value (verdict settings s.newest s.packets octets) h in
+        let x : (x : ℕ × Content) × (verdict settings codec s.newest s.packets octets ≡ Ok x) = ok_value (verdict settings codec s.newest s.packets octets) h in
         let n : ℕ = x.0.0 in
-        let is : verdict settings s.newest s.packets octets ≡ Ok (n, x.0.1) = x.1 in
-        let given : extended s.newest (wire_of sender i) ≡ Some n = sym brought-number ∙ (verdict_taken settings s.newest s.packets octets n x.0.1 is).0 in
-        let e : Extends m (wire_of sender i) n = extended-some (omega arith) (wire_below sender i) (sym later-number ∙ (verdict_taken settings s.newest s.packets octets n x.0.1 is).0) in
+        let is : verdict settings codec s.newest s.packets octets ≡ Ok (n, x.0.1) = x.1 in
+        let given : extended s.newest (wire_of sender i) ≡ Some n = sym brought-number ∙ (verdict_taken settings codec s.newest s.packets octets n x.0.1 is).0 in
+        let e : Extends m (wire_of sender i) n = extended-some (omega arith) (wire_below sender i) (sym later-number ∙ (verdict_taken settings codec s.newest s.packets octets n x.0.1 is).0) in
         let here : IsNumber sender (j ∷ js) i n = taken-number sender (j ∷ js) s.newest i n (m, newest, from, number) near given in
-        let opened : (is_too_old s.newest n ≡ false) × (is_available n s.packets ≡ false) = verdict_open settings s.newest s.packets octets n x.0.1 is in
+        let opened : (is_too_old s.newest n ≡ false) × (is_available n s.packets ≡ false) = verdict_open settings codec s.newest s.packets octets n x.0.1 is in
         let less : newest_with s.newest n < n + 2048 = open-newest s.newest n opened.0 in
         let with_m : newest_with s.newest n ≡ max m n = ap (λ (o : Option ℕ). newest_with o n) newest in
         let less_m : m < n + 2048 = omega arith in
@@ -105,7 +105,7 @@ module _ (settings : Settings) (sender : Sender) (s : Snapshot) (i : ℕ) (octet
         (number-near sender (j ∷ js) (greatest (j ∷ js)) i m n 32768 number here e.not_far_ahead, close, λ c. both_ways (is_available n s.packets) opened.1 (keeps.all i n c here close))
 
   -- a sender's datagram that is near those taken is taken exactly where its packet is one to take
-  rightly-taken : (js : List ℕ) → IsNewestOf sender js s.newest → Keeps sender js s.packets → IsNear i js → (is_ok (verdict settings s.newest s.packets octets) ≡ true) ↔ IsToTake i js
+  rightly-taken : (js : List ℕ) → IsNewestOf sender js s.newest → Keeps sender js s.packets → IsNear i js → (is_ok (verdict settings codec s.newest s.packets octets) ≡ true) ↔ IsToTake i js
   rightly-taken [] newest keeps near = (λ _. tt, λ _. first-taken keeps newest)
   rightly-taken (j ∷ js) newest keeps near = (later-to_take j js newest.0 newest.1 newest.2 newest.3 keeps near, later-taken j js newest.0 newest.1 newest.2 newest.3 keeps near)
 
@@ -158,10 +158,10 @@ module _ (settings : Settings) (codec : Meaning) (sender : Sender) (h : List Eve
     unfolding snapshots taken
     keeps_step (Datagram moment octets) (FromSender i) delivery =
         let s : Snapshot = latest (snapshots settings codec h) in
-        brought-keeps settings sender s i octets (brings law settings codec sender honest i octets delivery.0) (taken settings codec h origins) moment newest keeps delivery.1 (verdict settings s.newest s.packets octets) refl
+        brought-keeps settings codec sender s i octets (brings law settings codec sender honest i octets delivery.0) (taken settings codec h origins) moment newest keeps delivery.1 (verdict settings codec s.newest s.packets octets) refl
     keeps_step (Datagram moment octets) Elsewhere delivery =
         let s : Snapshot = latest (snapshots settings codec h) in
-        subst (λ (r : Result (ℕ × Content) NotTaken). Keeps sender (taken settings codec h origins) (after_datagram s moment r).packets) (sym (verdict_aside settings s.newest s.packets octets delivery).1) keeps
+        subst (λ (r : Result (ℕ × Content) NotTaken). Keeps sender (taken settings codec h origins) (after_datagram s moment r).packets) (sym (verdict_aside settings codec s.newest s.packets octets delivery).1) keeps
     keeps_step (Tick moment) (FromSender i) delivery = absurd delivery
     keeps_step (Tick moment) Elsewhere delivery = keeps
     keeps_step (Pull moment) (FromSender i) delivery = absurd delivery
@@ -172,10 +172,10 @@ module _ (settings : Settings) (codec : Meaning) (sender : Sender) (h : List Eve
     unfolding reply
     takes_packet moment octets i delivery = let s : Snapshot = latest (snapshots settings codec h) in
         let js : List ℕ = taken settings codec h origins in
-        let b : Brings settings sender i octets = brings law settings codec sender honest i octets delivery.0 in
+        let b : Brings settings codec sender i octets = brings law settings codec sender honest i octets delivery.0 in
         record {
-          exactly = rightly-taken settings sender s i octets b js newest keeps delivery.1;
-          answer = λ h'. let p = brought-answer settings sender s i octets b js newest delivery.1 h' in (p.0, p.1, ap to p.2);
+          exactly = rightly-taken settings codec sender s i octets b js newest keeps delivery.1;
+          answer = λ h'. let p = brought-answer settings codec sender s i octets b js newest delivery.1 h' in (p.0, p.1, ap to p.2);
         } where
           to : What → Reply
           to w = ToDatagram (handled_as w)
@@ -194,7 +194,7 @@ first_keeps settings codec sender = record { from = λ n h. absurd (cc); all = �
 
 module _ (law : ReadsPacket) (settings : Settings) (codec : Meaning) (sender : Sender) (honest : HonestSender settings codec sender) where
   -- the rest of an honest call takes and keeps rightly
-  takes_from : (events : List Event) (h : List Event) (origins later : List Origin) (fs : List ℕ) → Holds settings codec sender honest (latest (snapshots settings codec h)) (taken settings codec h origins) fs → Keeps sender (taken settings codec h origins) (latest (snapshots settings codec h)).packets → HonestNetwork settings codec sender h origins events later → TakesRightly settings codec sender h origins events later
+  takes_from : (events : List Event) (h : List Event) (origins later : List Origin) (fs : List ℕ) → Holds settings codec sender honest (snapshots settings codec h) (taken settings codec h origins) fs → Keeps sender (taken settings codec h origins) (latest (snapshots settings codec h)).packets → HonestNetwork settings codec sender h origins events later → TakesRightly settings codec sender h origins events later
   takes_from [] h origins [] fs holds keeps network = kept_rightly settings codec sender h origins holds.newest holds.kept keeps
   takes_from [] h origins (o ∷ os) fs holds keeps network = absurd network
   takes_from (e ∷ es) h origins [] fs holds keeps network = absurd network

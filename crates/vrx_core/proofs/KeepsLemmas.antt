@@ -91,7 +91,7 @@ placed_old : (m n q : ℕ) (content : Content) (packets : Packets) → in_window
 placed_old m n q content packets w h = ap is_some (find-placed m n q content packets) ∙ before (eq_by_cmp nat_cmp q n) (in_window m q) content (find nat_cmp q packets) w h
 
 -- the window as an order
-in_window-from : (m n : ℕ) → m < n + 2048 → n ≤ m → in_window m n ≡ true
+pub in_window-from : (m n : ℕ) → m < n + 2048 → n ≤ m → in_window m n ≡ true
 in_window-from m n a b = and_from (nat_lt m (n + 2048)) (nat_le n m) (lt-ltb m (n + 2048) a) (le-leb n m b)
 
 -- and back

@@ -57,7 +57,7 @@ unfolding snapshots
 has_none settings codec [] is = refl
 has_none settings codec (Datagram moment octets ∷ h) is =
     let s : Snapshot = latest (snapshots settings codec h) in
-    datagram_none s moment (verdict settings s.newest s.packets octets) (has_none settings codec h) is
+    datagram_none s moment (verdict settings codec s.newest s.packets octets) (has_none settings codec h) is
 has_none settings codec (Tick moment ∷ h) is = has_none settings codec h is
 has_none settings codec (Pull moment ∷ h) is =
     let past : List Snapshot = snapshots settings codec h in
@@ -78,7 +78,7 @@ pub passed_stays : PassedStaysHolds
 unfolding snapshots
 passed_stays settings codec h (Datagram moment octets) n passed =
     let s : Snapshot = latest (snapshots settings codec h) in
-    datagram_passed s moment (verdict settings s.newest s.packets octets) n (has_none settings codec h) passed
+    datagram_passed s moment (verdict settings codec s.newest s.packets octets) n (has_none settings codec h) passed
 passed_stays settings codec h (Tick moment) n passed = passed
 passed_stays settings codec h (Pull moment) n passed =
     let past : List Snapshot = snapshots settings codec h in

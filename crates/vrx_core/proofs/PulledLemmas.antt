@@ -8,7 +8,7 @@ use Rattle.std.proofs.lemmas.List.Elements.{All-from_recursion, All-head}
 use Rattle.vrx_codec.specs.Meaning.{Meaning}
 use Rattle.vrx_core.specs.Window.{Content, Packets}
 use Rattle.vrx_core.specs.Verdict.{verdict}
-use Rattle.vrx_core.specs.Run.{Run, runs}
+use Rattle.vrx_core.specs.Run.{Run, is_start, runs}
 use Rattle.vrx_core.specs.Deliverable.{stands, is_deliverable, lesser, least, answer}
 use Rattle.vrx_core.specs.Machine.{Snapshot, latest, last_pulled, frame_of, next_frame, after_datagram, after_pull, snapshots}
 use Rattle.vrx_core.specs.PulledRise.{Rise, PulledRiseHolds}
@@ -51,7 +51,7 @@ given-rises codec past frame is =
     let times : List Packets = map (λ t. t.packets) past in
     let a : (run : Run) × (answer (last_pulled s.pulled) s.front (runs codec s.front times s.packets) ≡ Some run) × (frame_of run ≡ frame) = option_map-some frame_of (answer (last_pulled s.pulled) s.front (runs codec s.front times s.packets)) frame is in
     let b : Contains (runs codec s.front times s.packets) a.0 × (stands (last_pulled s.pulled) a.0 ≡ true) = answer-from (last_pulled s.pulled) s.front (runs codec s.front times s.packets) a.0 a.1 in
-    let c : IsRun codec s.front times s.packets a.0 = runs-from codec s.front times s.packets a.0 b.0 in
+    let c : IsRun codec s.front times s.packets a.0 = runs-from codec (is_start s.front times) s.packets a.0 b.0 in
     subst (λ (f : Frame). (f.first ≤ f.last) × IfSome (last_pulled s.pulled) (λ last. last < f.first)) a.2 (c.not_empty, stands-beyond (last_pulled s.pulled) a.0 b.1)
 
 -- a datagram leaves the frames pulled
@@ -70,7 +70,7 @@ unfolding snapshots
 pulled_rise settings codec [] = tt
 pulled_rise settings codec (Datagram moment octets ∷ h) =
     let s : Snapshot = latest (snapshots settings codec h) in
-    subst Rise (sym (datagram_pulled s moment (verdict settings s.newest s.packets octets))) (pulled_rise settings codec h)
+    subst Rise (sym (datagram_pulled s moment (verdict settings codec s.newest s.packets octets))) (pulled_rise settings codec h)
 pulled_rise settings codec (Tick moment ∷ h) = pulled_rise settings codec h
 pulled_rise settings codec (Pull moment ∷ h) =
     let past : List Snapshot = snapshots settings codec h in

@@ -1,35 +1,45 @@
 -- In an honest call the deliverable runs are the ready frames.
-use Rattle.std.proofs.Common.{◌≡◌, ℕ, zero, suc, ◌+◌, ◌-◌, ◌<◌, ◌≤◌, ◌⊎◌, Bool, true, false, ◌&&◌, ◌||◌, List, [], ◌∷◌, map, length, slice_get, Contains, All, Option, Some, None, IfSome, IsSomeAnd, is_some, refl, sym, ◌∙◌, ap, subst, arith, inl, inr}
+use Rattle.std.proofs.Common.{◌≡◌, ◌↔◌, ℕ, zero, suc, ◌+◌, ◌-◌, ◌<◌, ◌≤◌, ◌⊎◌, Bool, true, false, ◌&&◌, ◌||◌, List, [], ◌∷◌, map, length, slice_get, Contains, All, Option, Some, None, IfSome, IsSomeAnd, is_some, refl, sym, ◌∙◌, ap, subst, arith, inl, inr}
 use Rattle.std.specs.Prelude.{is_none}
 use Rattle.std.specs.List.{AllByRecursion}
-use Rattle.std.proofs.lemmas.Bool.{and_parts, and_from, both_ways, true≢false, leb-true}
+use Rattle.std.specs.Option.{option_map_or}
+use Rattle.std.proofs.lemmas.Bool.{and_parts, and_from, or_cases, or_left, or_right, both_ways, true≢false, leb-true}
 use Rattle.std.proofs.lemmas.Option.{slice_get_within, slice_get-get_or, none-some, same_Some}
 use Rattle.std.proofs.lemmas.List.Elements.{All-from_recursion, recursion_from_All}
 use Rattle.vrx_codec.specs.Meaning.{Meaning}
-use Rattle.vrx_core.specs.Window.{Packets, is_available}
-use Rattle.vrx_core.specs.Run.{Run, runs, is_passed}
-use Rattle.vrx_core.specs.IsRun.{IsRun}
+use Rattle.vrx_rtp.specs.Reading.{read}
+use Rattle.vrx_codec.specs.declared.part.Start.{Start}
+use Rattle.vrx_codec.specs.declared.part.Start.TheVariants.{Yes, No, ByNeighbour}
+use Rattle.vrx_core.specs.Window.{Content, Packets, at, is_available}
+use Rattle.vrx_core.specs.Window as window
+use Rattle.vrx_core.specs.Run.{Run, Piece, begins, ends_frame, stands_behind, began_behind, is_start, runs, is_passed}
+use Rattle.vrx_core.specs.IsRun.{IsPiece, ArePieces, IsRun}
+use Rattle.vrx_core.specs.Available.{IsInWindow}
 use Rattle.vrx_core.specs.Deliverable.{stands, is_evident, is_deliverable, answer}
 use Rattle.vrx_core.specs.Machine.{Snapshot, latest, last_pulled, frame_of, snapshots}
-use Rattle.vrx_core.specs.Sender.{SentFrame, Sender}
+use Rattle.vrx_core.specs.Sender.{SentFrame, SentPacket, Media, Sender}
+use Rattle.vrx_core.specs.WireForm.{content_of}
 use Rattle.vrx_core.specs.Chain.{IsRuleReference, Leads, InChain}
-use Rattle.vrx_core.specs.HonestSender.{Travels, HonestSender}
+use Rattle.vrx_core.specs.HonestSender.{Carried, IsPart, Travels, HonestSender}
 use Rattle.vrx_core.specs.HonestNetwork.{Origin, taken}
-use Rattle.vrx_core.specs.Ready.{IsNumber, HasNumbers, StandsComplete, Follows, Ready}
+use Rattle.vrx_core.specs.Ready.{IsNumber, HasNumbers, SaysStart, BeginsEvidently, StandsComplete, Follows, Ready}
 use Rattle.vrx_core.specs.HonestRuns.{IsFrameRun}
 use Rattle.vrx_core.specs.HonestCall.{IsSentFrame, IsLeastReady}
 use Rattle.vrx_core.specs.declared.settings.Settings.{Settings}
 use Rattle.vrx_core.specs.declared.event.Event.{Event}
 use Rattle.vrx_core.specs.declared.reply.Frame.{Frame}
 use Rattle.vrx_core.proofs.AnswerLemmas.{answer-given, answer-least, answer-none}
-use Rattle.vrx_core.proofs.RunLemmas.{runs-from, runs-to, pieces-available}
+use Rattle.vrx_core.proofs.RunLemmas.{list_any-from, runs-from, runs-to, pieces-available}
 use Rattle.vrx_core.proofs.PulledLemmas.{beyond-every, beyond-last}
 use Rattle.vrx_core.proofs.MemberLemmas.{Contains-head, Contains-either}
-use Rattle.vrx_core.proofs.NumberLemmas.{IsNumber-upto}
+use Rattle.vrx_core.proofs.NumberLemmas.{IsNewestOf, IsNumber-upto}
+use Rattle.vrx_core.proofs.AvailableLemmas.{available_are}
 use Rattle.vrx_core.proofs.KeepsLemmas.{one-number, one-place}
+use Rattle.vrx_core.proofs.KeptLemmas.{kept-there}
 use Rattle.vrx_core.proofs.FrontLemmas.{plain, pulled-passed}
-use Rattle.vrx_core.proofs.PartLemmas.{frame_travels, frame_upto, one_span, size, some_holds, some_from}
-use Rattle.vrx_core.proofs.FrameLemmas.{number_later, frame_run, frame-run, run-frame}
+use Rattle.vrx_core.proofs.PartLemmas.{frame_travels, frame_upto, one_span, size, some_holds, some_from, some_there}
+use Rattle.vrx_core.proofs.FrameLemmas.{number_later, media_text, is_behind, FirstBehind, frame_run, frame-run, run-frame}
+use Rattle.vrx_core.proofs.BeginLemmas.{there_tested, passed_first, began_first, were_behind, first_begins, says_yes}
 use Rattle.vrx_core.proofs.HoldsLemmas.{IsPulled, ArePulled, Holds, bound_of, bound_upto, frame_after, stands_from, stands_to}
 
 -- what holds of each of a list holds of one in it
@@ -75,6 +85,10 @@ first_key front run h = by_key run.key refl where
   by_key : (b : Bool) → run.key ≡ b → b ≡ true
   by_key true is = refl
   by_key false is = absurd (true≢false (sym (next_evident None front run h is).0))
+
+-- a deliverable run stands
+pub deliverable-stands : (pulled front : Option ℕ) (run : Run) → is_deliverable pulled front run ≡ true → stands pulled run ≡ true
+deliverable-stands pulled front run h = (and_parts (stands pulled run) _ h).0
 
 -- where a frame was pulled there is a last one
 last_there : (frames : List Frame) (frame : Frame) → Contains frames frame → is_some (last_pulled frames) ≡ true
@@ -122,12 +136,48 @@ module _ (settings : Settings) (codec : Meaning) (sender : Sender) (honest : Hon
     abbrev js : List ℕ
     js = taken settings codec h origins
 
-    module _ (fs : List ℕ) (holds : Holds settings codec sender honest (latest (snapshots settings codec h)) (taken settings codec h origins) fs) where
-      -- a run is a frame of the sender
-      pub frame_is : (run : Run) → Contains runs_now run → (f : ℕ) × IsFrameRun sender js f run
-      frame_is run there =
+    module _ (fs : List ℕ) (holds : Holds settings codec sender honest (snapshots settings codec h) (taken settings codec h origins) fs) where
+      -- an available number isn't the first of all
+      from_one : (i n : ℕ) → IsNumber sender js i n → is_available n (latest (snapshots settings codec h)).packets ≡ true → 1 ≤ n
+      from_one i n numbered available = by_content (at n (latest (snapshots settings codec h)).packets) refl available where
+        in_window_from : (taken : List ℕ) (o : Option ℕ) → IsNumber sender taken i n → IsNewestOf sender taken o → IsInWindow o n → 1 ≤ n
+        in_window_from [] o is newest within = absurd is
+        in_window_from (j ∷ others) o is newest within =
+            let w : IsInWindow (Some newest.0) n = subst (λ (q : Option ℕ). IsInWindow q n) newest.1 within in
+            let least : 65536 ≤ newest.0 = newest.2 in
+            let near : newest.0 < n + 2048 = w.0 in
+            omega arith
+
+        by_content : (o : Option Content) → at n (latest (snapshots settings codec h)).packets ≡ o → is_some o ≡ true → 1 ≤ n
+        by_content None none some = absurd (true≢false (sym some))
+        by_content (Some content) there some = in_window_from js (latest (snapshots settings codec h)).newest numbered holds.newest (available_are settings codec h n content there).1
+
+      -- beyond the frames pulled none but a first part stands behind the end of a frame
+      first_behind : (from : ℕ) → IfSome pulled_now (λ last. last < from) → FirstBehind settings codec sender js (latest (snapshots settings codec h)).packets holds.kept honest front_now times from
+      first_behind from beyond i n upto available numbered sent behind = elim (or_cases (is_passed front_now (n - 1)) (began_behind times n) behind) [
+        | inl passed ↦ passed_first settings codec sender honest js fs (latest (snapshots settings codec h)).pulled i n sent holds.pulled (further pulled_now beyond) numbered (sym (ap (λ o. is_passed o (n - 1)) (plain settings codec h).front) ∙ passed)
+        | inr began ↦ began_first settings codec sender honest js (snapshots settings codec h) i n sent (from_one i n numbered available) holds.were numbered began
+      ] where
+        further : (o : Option ℕ) → IfSome o (λ last. last < from) → IfSome o (λ last. last < n)
+        further None less = tt
+        further (Some last) less = omega (arith, less, upto)
+
+      -- a run that stands is a frame of the sender
+      pub frame_is : (run : Run) → Contains runs_now run → stands pulled_now run ≡ true → (f : ℕ) × IsFrameRun sender js f run
+      frame_is run there beyond =
           let s : Snapshot = latest (snapshots settings codec h) in
-          run-frame settings codec sender js s.packets holds.kept honest s.front times run (runs-from codec s.front times s.packets run there)
+          run-frame settings codec sender js s.packets holds.kept honest s.front times run (first_behind run.first (stands_to pulled_now run beyond)) (runs-from codec (is_start s.front times) s.packets run there)
+
+      -- where it is evident that a frame begins with its first packet, its first part is a start
+      evident_begins : (f first : ℕ) (frame : SentFrame) → slice_get sender.frames f ≡ Some frame → IsNumber sender js (honest.place f) first → 1 ≤ first → BeginsEvidently settings codec sender h (honest.place f) first
+          → (c : Carried) → IsPart settings codec sender f frame (size settings codec sender honest f) 0 (honest.place f) c → begins c.part.start (is_behind front_now times first) ≡ true
+      evident_begins f first frame is numbered from evident c part = first_begins settings codec sender honest f (size settings codec sender honest f) (honest.place f) frame c (is_behind front_now times first) part (elim evident [
+        | inl says ↦ inl (says_yes settings codec sender honest f (size settings codec sender honest f) 0 (honest.place f) frame c part says)
+        | inr other ↦ inr (elim other [
+          | inl passed ↦ or_left (is_passed front_now (first - 1)) (began_behind times first) passed
+          | inr beside ↦ or_right (is_passed front_now (first - 1)) (began_behind times first) (were_behind settings codec sender honest js f frame first (snapshots settings codec h) is from holds.were numbered beside)
+        ])
+      ])
 
       -- its first number is that of the frame's first packet
       pub first_place : (f : ℕ) (run : Run) (is : IsFrameRun sender js f run) → IsNumber sender js (honest.place f) run.first
@@ -155,7 +205,10 @@ module _ (settings : Settings) (codec : Meaning) (sender : Sender) (honest : Hon
           let run : Run = frame_run settings codec sender js s.packets holds.kept c.frame c.first (honest.parts f) in
           record {
             run = run;
-            there = runs-to codec s.front times s.packets run (frame-run settings codec sender js s.packets holds.kept honest s.front times f c.frame c.first c.sent first (λ n from upto. c.available n from (omega arith)));
+            there = runs-to codec (is_start s.front times) s.packets run (frame-run settings codec sender js s.packets holds.kept honest s.front times f c.frame c.first c.sent
+                (first_behind c.first (beyond-last s.pulled c.first c.beyond))
+                (evident_begins f c.first c.frame c.sent first (from_one (honest.place f) c.first first (c.available c.first (omega arith) (omega arith))) (subst (λ (i : ℕ). BeginsEvidently settings codec sender h i c.first) span.0 c.begins))
+                first (λ n from upto. c.available n from (omega arith)));
             beyond = stands_from pulled_now run (beyond-last s.pulled c.first c.beyond);
             is_frame = record {
               frame = c.frame;
@@ -221,7 +274,7 @@ module _ (settings : Settings) (codec : Meaning) (sender : Sender) (honest : Hon
         answer_available : (n : ℕ) → run.first ≤ n → n ≤ run.last → is_available n (latest (snapshots settings codec h)).packets ≡ true
         answer_available n from upto =
             let s : Snapshot = latest (snapshots settings codec h) in
-            let r : IsRun codec s.front times s.packets run = runs-from codec s.front times s.packets run (answer-given pulled_now front_now runs_now run is).0 in
+            let r : IsRun codec s.front times s.packets run = runs-from codec (is_start s.front times) s.packets run (answer-given pulled_now front_now runs_now run is).0 in
             let to : run.first + length r.pieces ≡ run.last + 1 = r.to_last in
             pieces-available codec s.packets run.first n r.pieces r.from_first from (omega arith)
 
@@ -276,6 +329,54 @@ module _ (settings : Settings) (codec : Meaning) (sender : Sender) (honest : Hon
           by_frame None each = tt
           by_frame (Some frame) each = all_more (λ g. InChain sender f g) (λ g. Contains fs g) frame.references answer_chain each
 
+        -- a start that the packet before decides
+        behind_evident : (i n : ℕ) → is_behind front_now times n ≡ true → BeginsEvidently settings codec sender h i n
+        behind_evident i n behind = elim (or_cases (is_passed front_now (n - 1)) (began_behind times n) behind) [
+          | inl passed ↦ inr (inl passed)
+          | inr began ↦
+              let t : (packets : Packets) × Contains times packets × (stands_behind n packets ≡ true) = list_any-from (stands_behind n) times began in
+              let both : (is_available n t.0 ≡ true) × (option_map_or ends_frame (at (n - 1) t.0) false ≡ true) = and_parts _ _ t.2 in
+              inr (inr (t.0, t.1, both.0, ap is_some (there_tested ends_frame (at (n - 1) t.0) both.1).1))
+        ]
+
+        -- the packet of a piece that is a start begins a frame evidently
+        piece_evident : (i n : ℕ) (p : Piece) → IsNumber sender js i n → IsPiece codec (latest (snapshots settings codec h)).packets n p → is_start front_now times p ≡ true → BeginsEvidently settings codec sender h i n
+        piece_evident i n p numbered piece start = by_start p.part.start refl where
+          says : (packet : SentPacket) → at n (latest (snapshots settings codec h)).packets ≡ Some (content_of packet) → p.part.start ≡ Yes → SaysStart codec packet
+          says (Media g k text) there start_is =
+              let same : piece.text ≡ text = ap media_text (same_Some (window.Media piece.text) (window.Media text) (sym piece.media ∙ there)) in
+              (p.packet, p.part, sym (ap read same) ∙ piece.reads, piece.part_reads, start_is)
+
+          sent_says : p.part.start ≡ Yes → IsSomeAnd (slice_get sender.packets i) (SaysStart codec)
+          sent_says start_is =
+              let packets : Packets = (latest (snapshots settings codec h)).packets in
+              let k = kept-there sender js n packets holds.kept (ap is_some piece.media) in
+              let q : (packet : SentPacket) × (slice_get sender.packets k.0 ≡ Some packet) × (at n packets ≡ Some (content_of packet)) = some_there (λ packet. at n packets ≡ Some (content_of packet)) (slice_get sender.packets k.0) k.2 in
+              subst (λ (x : ℕ). IsSomeAnd (slice_get sender.packets x) (SaysStart codec)) (one-place sender js k.0 i n k.1 numbered)
+              (some_from (SaysStart codec) (slice_get sender.packets k.0) q.0 q.1 (says q.0 q.2 start_is))
+
+          by_start : (x : Start) → p.part.start ≡ x → BeginsEvidently settings codec sender h i n
+          by_start Yes is = inl (sent_says is)
+          by_start No is = absurd (true≢false (sym start ∙ ap (λ x. begins x (is_behind front_now times p.number)) is))
+          by_start ByNeighbour is = behind_evident i n (ap (is_behind front_now times) (sym piece.number) ∙ sym (ap (λ x. begins x (is_behind front_now times p.number)) is) ∙ start)
+
+        -- it is evident where it begins
+        answer_begins : (i : ℕ) → IsNumber sender js i run.first → BeginsEvidently settings codec sender h i run.first
+        answer_begins i numbered =
+            let s : Snapshot = latest (snapshots settings codec h) in
+            let r : IsRun codec s.front times s.packets run = runs-from codec (is_start s.front times) s.packets run (answer-given pulled_now front_now runs_now run is).0 in
+            by_pieces r r.pieces refl where
+              by_pieces : (r : IsRun codec (latest (snapshots settings codec h)).front times (latest (snapshots settings codec h)).packets run) (xs : List Piece) → r.pieces ≡ xs → BeginsEvidently settings codec sender h i run.first
+              by_pieces r [] none =
+                  let to : run.first + length r.pieces ≡ run.last + 1 = r.to_last in
+                  let empty : length r.pieces ≡ 0 = ap length none in
+                  let within : run.first ≤ run.last = r.not_empty in
+                  absurd (omega arith)
+              by_pieces r (p ∷ ps) those =
+                  let piece : IsPiece codec (latest (snapshots settings codec h)).packets run.first p = (subst (ArePieces codec (latest (snapshots settings codec h)).packets run.first) those r.from_first).0 in
+                  let start : AllByRecursion (λ q. (is_start front_now times q ≡ true) ↔ (q.number ≡ run.first)) (p ∷ ps) = subst (AllByRecursion (λ q. (is_start front_now times q ≡ true) ↔ (q.number ≡ run.first))) those (recursion_from_All _ r.pieces r.start) in
+                  piece_evident i run.first p numbered piece (start.0.1 piece.number)
+
         -- it is ready
         answer_ready : Ready settings codec sender h origins f
         answer_ready = record {
@@ -287,6 +388,7 @@ module _ (settings : Settings) (codec : Meaning) (sender : Sender) (honest : Hon
             numbered = is_frame.numbered;
             available = answer_available;
             beyond = beyond-every settings codec h run.first (stands_to pulled_now run answer_stands);
+            begins = answer_begins is_frame.numbered.from is_frame.numbered.first_is;
           };
           follows = λ g reference. (reference_last g reference).follows;
         }

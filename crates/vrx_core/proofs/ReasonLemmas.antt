@@ -5,6 +5,7 @@ use Rattle.vrx_num.specs.Extended.{IsHalfAway, extended}
 use Rattle.vrx_num.proofs.ExtendedLemmas.{extended-none, extended-half_away}
 use Rattle.vrx_rtp.specs.Packet.{Packet, AreOctets}
 use Rattle.vrx_rtp.specs.Reading.{reading, read}
+use Rattle.vrx_codec.specs.Meaning.{Meaning}
 use Rattle.vrx_core.specs.Form.{aside, is_aside}
 use Rattle.vrx_core.specs.Text.{text_in}
 use Rattle.vrx_core.specs.Window.{Content, Media, Packets, is_available}
@@ -127,7 +128,7 @@ absent : (o : Option NotTaken) → is_some o ≡ false → o ≡ None
 absent None h = refl
 absent (Some left) h = absurd (true≢false h)
 
-module _ (settings : Settings) (newest : Option ℕ) (packets : Packets) (octets : List ℕ) (octet : All (λ octet. octet < 256) octets) (from : IfSome newest (λ m. 32768 ≤ m)) (below : IfSome (read octets) (λ packet. packet.seq < 65536)) where
+module _ (settings : Settings) (codec : Meaning) (newest : Option ℕ) (packets : Packets) (octets : List ℕ) (octet : All (λ octet. octet < 256) octets) (from : IfSome newest (λ m. 32768 ≤ m)) (below : IfSome (read octets) (λ packet. packet.seq < 65536)) where
   -- what a verdict says of the answers
   abbrev SaysHere : Result (ℕ × Content) NotTaken → Type 0
   SaysHere r = Says (text_in octets) (number_of newest octets) (is_too_old newest) (λ n. is_available n packets) r
@@ -136,8 +137,8 @@ module _ (settings : Settings) (newest : Option ℕ) (packets : Packets) (octets
   here left = table (text_in octets) left (number_of newest octets) (is_too_old newest) (λ n. is_available n packets)
 
   -- where octets get no answer by themselves, it is what the verdict means
-  means-from : is_aside settings octets ≡ false → (r : Result (ℕ × Content) NotTaken) → SaysHere r → Means settings newest packets octets r
-  means-from free (Err (Refused TooFar)) s = let k : IsTakenPacket settings octets = taken_packet settings octets free in (free, read_away-to newest (read octets) k.packet k.reads from below s)
+  means-from : is_aside settings codec octets ≡ false → (r : Result (ℕ × Content) NotTaken) → SaysHere r → Means settings codec newest packets octets r
+  means-from free (Err (Refused TooFar)) s = let k : IsTakenPacket settings codec octets = taken_packet settings codec octets free in (free, read_away-to newest (read octets) k.packet k.reads from below s)
   means-from free (Err (Refused TooOld)) s = (s.0, record { form = free; number = s.1 }, below-to newest s.0 s.2)
   means-from free (Err (Refused Repeat)) s = (s.0, record { form = free; number = s.1 }, not_below-to newest s.0 s.2, s.3)
   means-from free (Err (Refused TooLong)) s = absurd s
@@ -158,7 +159,7 @@ module _ (settings : Settings) (newest : Option ℕ) (packets : Packets) (octets
   means-from free (Ok (n, content)) s = (record { form = free; number = s.0 }, not_below-to newest n s.1, s.2, text_in-to newest (read octets) n content s.0 s.3)
 
   -- an answer that octets get by themselves is what the verdict means
-  means-aside : (left : NotTaken) → MeansAside settings octets left → Means settings newest packets octets (Err left)
+  means-aside : (left : NotTaken) → MeansAside settings codec octets left → Means settings codec newest packets octets (Err left)
   means-aside (Refused TooFar) m = absurd m
   means-aside (Refused TooOld) m = absurd m
   means-aside (Refused Repeat) m = absurd m
@@ -179,20 +180,20 @@ module _ (settings : Settings) (newest : Option ℕ) (packets : Packets) (octets
   means-aside (Refused Dead) m = m
 
   -- the verdict is what it means
-  means_by : (left : Option NotTaken) → aside settings octets ≡ left → Means settings newest packets octets (here left)
+  means_by : (left : Option NotTaken) → aside settings codec octets ≡ left → Means settings codec newest packets octets (here left)
   means_by None is = means-from (ap is_some is) (here None) (says (text_in octets) (number_of newest octets) (is_too_old newest) (λ n. is_available n packets))
-  means_by (Some left) is = means-aside left (aside-to settings octets octet left is)
+  means_by (Some left) is = means-aside left (aside-to settings codec octets octet left is)
 
   -- where octets get no answer by themselves, what is said is the verdict
-  free-is : is_aside settings octets ≡ false → (r : Result (ℕ × Content) NotTaken) → SaysHere r → verdict settings newest packets octets ≡ r
-  free-is free r s = ap here (absent (aside settings octets) free) ∙ is_said (text_in octets) (number_of newest octets) (is_too_old newest) (λ n. is_available n packets) r s
+  free-is : is_aside settings codec octets ≡ false → (r : Result (ℕ × Content) NotTaken) → SaysHere r → verdict settings codec newest packets octets ≡ r
+  free-is free r s = ap here (absent (aside settings codec octets) free) ∙ is_said (text_in octets) (number_of newest octets) (is_too_old newest) (λ n. is_available n packets) r s
 
   -- where they get one, that is the verdict
-  aside-is : (left : NotTaken) → MeansAside settings octets left → verdict settings newest packets octets ≡ Err left
-  aside-is left m = ap here (aside-from settings octets octet left m)
+  aside-is : (left : NotTaken) → MeansAside settings codec octets left → verdict settings codec newest packets octets ≡ Err left
+  aside-is left m = ap here (aside-from settings codec octets octet left m)
 
   -- and back
-  means-to : (r : Result (ℕ × Content) NotTaken) → Means settings newest packets octets r → verdict settings newest packets octets ≡ r
+  means-to : (r : Result (ℕ × Content) NotTaken) → Means settings codec newest packets octets r → verdict settings codec newest packets octets ≡ r
   means-to (Err (Refused TooFar)) m = free-is m.0 (Err (Refused TooFar)) (read_away-from newest (read octets) from below m.1)
   means-to (Err (Refused TooOld)) m = free-is m.1.form (Err (Refused TooOld)) (m.0, m.1.number, below-from newest m.0 m.2)
   means-to (Err (Refused Repeat)) m = free-is m.1.form (Err (Refused Repeat)) (m.0, m.1.number, not_below-from newest m.0 m.2, m.3)
@@ -222,24 +223,24 @@ wire-below reads octets octet = by_read (read octets) refl where
 
 -- a verdict comes exactly where its meaning holds
 pub reasons_mean : ReadsPacket → ReasonsHolds
-reasons_mean reads settings newest packets octets octet from result = let below = wire-below reads octets octet in (
-  λ is. subst (Means settings newest packets octets) is (means_by settings newest packets octets octet from below (aside settings octets) refl),
-  means-to settings newest packets octets octet from below result,
+reasons_mean reads settings codec newest packets octets octet from result = let below = wire-below reads octets octet in (
+  λ is. subst (Means settings codec newest packets octets) is (means_by settings codec newest packets octets octet from below (aside settings codec octets) refl),
+  means-to settings codec newest packets octets octet from below result,
 )
 
 -- an answer comes exactly where its meaning holds
-pub answers_mean : (law : ReasonsHolds) (settings : Settings) (newest : Option ℕ) (packets : Packets) (octets : List ℕ) → AreOctets octets → IfSome newest (λ m. 32768 ≤ m)
-    → (given : What) → given ≡ what_of (verdict settings newest packets octets) → (what : What) → (given ≡ what) ↔ MeansAnswer settings newest packets octets what
-answers_mean law settings newest packets octets octet from given is what = (λ same. to (verdict settings newest packets octets) refl what (sym is ∙ same), λ m. is ∙ back what m) where
-  holds : (result : Result (ℕ × Content) NotTaken) → (verdict settings newest packets octets ≡ result) ↔ Means settings newest packets octets result
-  holds result = law settings newest packets octets octet from result
+pub answers_mean : (law : ReasonsHolds) (settings : Settings) (codec : Meaning) (newest : Option ℕ) (packets : Packets) (octets : List ℕ) → AreOctets octets → IfSome newest (λ m. 32768 ≤ m)
+    → (given : What) → given ≡ what_of (verdict settings codec newest packets octets) → (what : What) → (given ≡ what) ↔ MeansAnswer settings codec newest packets octets what
+answers_mean law settings codec newest packets octets octet from given is what = (λ same. to (verdict settings codec newest packets octets) refl what (sym is ∙ same), λ m. is ∙ back what m) where
+  holds : (result : Result (ℕ × Content) NotTaken) → (verdict settings codec newest packets octets ≡ result) ↔ Means settings codec newest packets octets result
+  holds result = law settings codec newest packets octets octet from result
 
-  to : (result : Result (ℕ × Content) NotTaken) → verdict settings newest packets octets ≡ result → (w : What) → what_of result ≡ w → MeansAnswer settings newest packets octets w
-  to (Ok (n, content)) v w same = subst (MeansAnswer settings newest packets octets) same (content, (holds (Ok (n, content))).0 v)
-  to (Err Control) v w same = subst (MeansAnswer settings newest packets octets) same ((holds (Err Control)).0 v)
-  to (Err (Refused reason)) v w same = subst (MeansAnswer settings newest packets octets) same ((holds (Err (Refused reason))).0 v)
+  to : (result : Result (ℕ × Content) NotTaken) → verdict settings codec newest packets octets ≡ result → (w : What) → what_of result ≡ w → MeansAnswer settings codec newest packets octets w
+  to (Ok (n, content)) v w same = subst (MeansAnswer settings codec newest packets octets) same (content, (holds (Ok (n, content))).0 v)
+  to (Err Control) v w same = subst (MeansAnswer settings codec newest packets octets) same ((holds (Err Control)).0 v)
+  to (Err (Refused reason)) v w same = subst (MeansAnswer settings codec newest packets octets) same ((holds (Err (Refused reason))).0 v)
 
-  back : (w : What) → MeansAnswer settings newest packets octets w → what_of (verdict settings newest packets octets) ≡ w
+  back : (w : What) → MeansAnswer settings codec newest packets octets w → what_of (verdict settings codec newest packets octets) ≡ w
   back (whats.Media n) (content, m) = ap what_of ((holds (Ok (n, content))).1 m)
   back whats.Rtcp m = ap what_of ((holds (Err Control)).1 m)
   back (whats.Dropped reason) m = ap what_of ((holds (Err (Refused reason))).1 m)
@@ -247,8 +248,8 @@ answers_mean law settings newest packets octets octet from given is what = (λ s
   back (whats.Empty n) m = absurd m
 
 -- the newest number of an engine lies beyond half of the number space
-pub newest-beyond : (parts : Parts) → IsSound parts → IfSome parts.newest (λ m. 32768 ≤ m)
-newest-beyond parts sound = by_newest parts.newest sound.reach where
+pub newest-beyond : (codec : Meaning) (parts : Parts) → IsSound codec parts → IfSome parts.newest (λ m. 32768 ≤ m)
+newest-beyond codec parts sound = by_newest parts.newest sound.reach where
   by_newest : (o : Option ℕ) → IfSome o (λ newest. (65536 ≤ newest) × (newest ≤ 131072 + 32768 * parts.events)) → IfSome o (λ m. 32768 ≤ m)
   by_newest None reach = tt
   by_newest (Some m) reach = omega (arith, reach.0)

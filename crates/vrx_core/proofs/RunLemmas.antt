@@ -12,13 +12,13 @@ use Rattle.vrx_codec.specs.Part.{Part}
 use Rattle.vrx_codec.specs.declared.part.Layers.{Layers}
 use Rattle.vrx_codec.specs.Meaning.{Meaning}
 use Rattle.vrx_core.specs.Window.{Content, Media, Fec, Empty, Packets, at, is_available}
-use Rattle.vrx_core.specs.Run.{Run, Piece, text_of, piece_at, numbers_from, all_some, stretch, is_start, first_alone, last_alone, run_of, runs, ◌>>=◌}
-use Rattle.vrx_core.specs.IsRun.{IsPiece, ArePieces, IsRun, RunsHolds}
+use Rattle.vrx_core.specs.Run.{Run, Piece, text_of, piece_at, numbers_from, all_some, stretch, is_start, first_alone, last_alone, run_of, runs_by, ◌>>=◌}
+use Rattle.vrx_core.specs.IsRun.{IsPiece, ArePieces, IsRunBy, RunsHolds}
 use Rattle.vrx_core.proofs.KeyLemmas.{available_cases}
 use Rattle.vrx_core.proofs.MemberLemmas.{Contains-head, Contains-tail, Contains-either, Contains-empty, found_tail, flat_map-from, flat_map-to, filter_map-from, filter_map-to}
 
 -- what a step gives comes from a value before it
-bind-some : {A B : Type 0} (o : Option A) (f : A → Option B) (y : B) → (o >>= f) ≡ Some y → (x : A) × (o ≡ Some x) × (f x ≡ Some y)
+pub bind-some : {A B : Type 0} (o : Option A) (f : A → Option B) (y : B) → (o >>= f) ≡ Some y → (x : A) × (o ≡ Some x) × (f x ≡ Some y)
 bind-some None f y is = absurd (none-some y is)
 bind-some (Some x) f y is = (x, refl, is)
 
@@ -29,7 +29,7 @@ text_of-some (Fec payload) text is = absurd (none-some text is)
 text_of-some Empty text is = absurd (none-some text is)
 
 -- a result with a value is an Ok
-result_ok-some : {A E : Type 0} (r : Result A E) (x : A) → result_ok r ≡ Some x → r ≡ Ok x
+pub result_ok-some : {A E : Type 0} (r : Result A E) (x : A) → result_ok r ≡ Some x → r ≡ Ok x
 result_ok-some (Ok y) x is = ap Ok (same_Some y x is)
 result_ok-some (Err e) x is = absurd (none-some x is)
 
@@ -194,11 +194,11 @@ option_map-some f None y is = absurd (none-some y is)
 option_map-some f (Some x) y is = (x, refl, same_Some (f x) y is)
 
 -- a value behind a test
-tested : {A : Type 0} (b : Bool) (o : Option A) (y : A) → cond b o None ≡ Some y → (b ≡ true) × (o ≡ Some y)
+pub tested : {A : Type 0} (b : Bool) (o : Option A) (y : A) → cond b o None ≡ Some y → (b ≡ true) × (o ≡ Some y)
 tested true o y is = (refl, is)
 tested false o y is = absurd (none-some y is)
 
-module _ (codec : Meaning) (front : Option ℕ) (times : List Packets) (packets : Packets) where
+module _ (codec : Meaning) (starts : Piece → Bool) (packets : Packets) where
   -- a packet has the marker
   abbrev marked : Piece → Bool
   marked p = p.packet.marker
@@ -213,19 +213,18 @@ module _ (codec : Meaning) (front : Option ℕ) (times : List Packets) (packets 
 
   -- the conditions of a stretch, as a test
   abbrev conditions : Piece → List Piece → Bool
-  conditions piece pieces = list_all (λ p. p.packet.ts == piece.packet.ts) pieces && first_alone (is_start front times) (piece ∷ pieces) && last_alone marked (piece ∷ pieces)
+  conditions piece pieces = list_all (λ p. p.packet.ts == piece.packet.ts) pieces && first_alone starts (piece ∷ pieces) && last_alone marked (piece ∷ pieces)
 
   -- a run of pieces is what the conditions say
-  pieces_run : (first last : ℕ) (piece : Piece) (pieces : List Piece) (run : Run) → ArePieces codec packets first (piece ∷ pieces) → first + length (piece ∷ pieces) ≡ last + 1 → run_of codec (is_start front times) last (piece ∷ pieces) ≡ Some run → IsRun codec front times packets run
+  pieces_run : (first last : ℕ) (piece : Piece) (pieces : List Piece) (run : Run) → ArePieces codec packets first (piece ∷ pieces) → first + length (piece ∷ pieces) ≡ last + 1 → run_of codec starts last (piece ∷ pieces) ≡ Some run → IsRunBy codec starts packets run
   pieces_run first last piece pieces run are size is =
       let a : (conditions piece pieces ≡ true) × (option_map (made last piece pieces) (result_ok (codec.join (map (λ p. p.part) (piece ∷ pieces)))) ≡ Some run) = tested (conditions piece pieces) _ run is in
       let b : (bytes : List ℕ) × (result_ok (codec.join (map (λ p. p.part) (piece ∷ pieces))) ≡ Some bytes) × (made last piece pieces bytes ≡ run) = option_map-some (made last piece pieces) (result_ok (codec.join (map (λ p. p.part) (piece ∷ pieces)))) run a.1 in
-      let starts : Piece → Bool = is_start front times in
       let c : ((list_all (λ p. p.packet.ts == piece.packet.ts) pieces && first_alone starts (piece ∷ pieces)) ≡ true) × (last_alone marked (piece ∷ pieces) ≡ true) = and_parts _ _ a.0 in
       let d : (list_all (λ p. p.packet.ts == piece.packet.ts) pieces ≡ true) × (first_alone starts (piece ∷ pieces) ≡ true) = and_parts _ _ c.0 in
       let e : (starts piece ≡ true) × (list_all (λ p. not (starts p)) pieces ≡ true) = and_parts (starts piece) (list_all (λ p. not (starts p)) pieces) d.1 in
       let number : piece.number ≡ first = are.0.number in
-      subst (IsRun codec front times packets) b.2 (record {
+      subst (IsRunBy codec starts packets) b.2 (record {
         pieces = piece ∷ pieces;
         from_first = subst (λ n. ArePieces codec packets n (piece ∷ pieces)) (sym number) are;
         to_last = ap (λ n. n + length (piece ∷ pieces)) number ∙ size;
@@ -240,71 +239,70 @@ module _ (codec : Meaning) (front : Option ℕ) (times : List Packets) (packets 
       })
 
   -- a stretch of a first and a last number that is a run
-  stretch_run : (first last : ℕ) (pieces : List Piece) (run : Run) → ArePieces codec packets first pieces → length pieces ≡ last + 1 - first → run_of codec (is_start front times) last pieces ≡ Some run → IsRun codec front times packets run
+  stretch_run : (first last : ℕ) (pieces : List Piece) (run : Run) → ArePieces codec packets first pieces → length pieces ≡ last + 1 - first → run_of codec starts last pieces ≡ Some run → IsRunBy codec starts packets run
   stretch_run first last [] run are size is = absurd (none-some run is)
   stretch_run first last (piece ∷ pieces) run are size is = pieces_run first last piece pieces run are (omega arith) is
 
   -- the run between a first and a last number
   abbrev between : ℕ → ℕ → Option Run
-  between first last = stretch codec packets first last >>= run_of codec (is_start front times) last
+  between first last = stretch codec packets first last >>= run_of codec starts last
 
   -- it is what the conditions say
-  between-from : (first last : ℕ) (run : Run) → between first last ≡ Some run → IsRun codec front times packets run
+  between-from : (first last : ℕ) (run : Run) → between first last ≡ Some run → IsRunBy codec starts packets run
   between-from first last run is =
-      let a : (pieces : List Piece) × (stretch codec packets first last ≡ Some pieces) × (run_of codec (is_start front times) last pieces ≡ Some run) = bind-some (stretch codec packets first last) (run_of codec (is_start front times) last) run is in
+      let a : (pieces : List Piece) × (stretch codec packets first last ≡ Some pieces) × (run_of codec starts last pieces ≡ Some run) = bind-some (stretch codec packets first last) (run_of codec starts last) run is in
       let b : ArePieces codec packets first a.0 × (length a.0 ≡ last + 1 - first) = pieces-from codec packets first (last + 1 - first) a.0 a.1 in
       stretch_run first last a.0 run b.0 b.1 a.2
 
   -- what is among the runs is one
-  pub runs-from : (run : Run) → Contains (runs codec front times packets) run → IsRun codec front times packets run
+  pub runs-from : (run : Run) → Contains (runs_by codec starts packets) run → IsRunBy codec starts packets run
   runs-from run there =
       let numbers : List ℕ = map (λ entry. entry.0) packets in
       let a : (first : ℕ) × Contains numbers first × Contains (filter_map (between first) numbers) run = flat_map-from (λ first. filter_map (between first) numbers) numbers run there in
       let b : (last : ℕ) × Contains numbers last × (between a.0 last ≡ Some run) = filter_map-from (between a.0) numbers run a.2 in
       between-from a.0 b.0 run b.2
 
-module _ (codec : Meaning) (front : Option ℕ) (times : List Packets) (packets : Packets) where
+module _ (codec : Meaning) (starts : Piece → Bool) (packets : Packets) where
   -- pieces of which the conditions hold make the run
   run_of-to : (run : Run) (piece : Piece) (pieces : List Piece) → ArePieces codec packets run.first (piece ∷ pieces) → run.first + length (piece ∷ pieces) ≡ run.last + 1
-      → AllByRecursion (λ p. p.packet.ts ≡ run.ts) (piece ∷ pieces) → AllByRecursion (λ p. (is_start front times p ≡ true) ↔ (p.number ≡ run.first)) (piece ∷ pieces) → AllByRecursion (λ p. (p.packet.marker ≡ true) ↔ (p.number ≡ run.last)) (piece ∷ pieces)
-      → (run.key ≡ true) ↔ ((p : Piece) × Contains (piece ∷ pieces) p × (p.part.key ≡ true)) → run.layers ≡ piece.part.layers → codec.join (map (λ p. p.part) (piece ∷ pieces)) ≡ Ok run.bytes → run_of codec (is_start front times) run.last (piece ∷ pieces) ≡ Some run
+      → AllByRecursion (λ p. p.packet.ts ≡ run.ts) (piece ∷ pieces) → AllByRecursion (λ p. (starts p ≡ true) ↔ (p.number ≡ run.first)) (piece ∷ pieces) → AllByRecursion (λ p. (p.packet.marker ≡ true) ↔ (p.number ≡ run.last)) (piece ∷ pieces)
+      → (run.key ≡ true) ↔ ((p : Piece) × Contains (piece ∷ pieces) p × (p.part.key ≡ true)) → run.layers ≡ piece.part.layers → codec.join (map (λ p. p.part) (piece ∷ pieces)) ≡ Ok run.bytes → run_of codec starts run.last (piece ∷ pieces) ≡ Some run
   run_of-to run piece pieces are size ts start marker key layers joins =
-      let starts : Piece → Bool = is_start front times in
       let number : piece.number ≡ run.first = are.0.number in
       let times_agree : list_all (λ p. p.packet.ts == piece.packet.ts) pieces ≡ true = same_ts-to piece.packet.ts pieces (subst (λ t. AllByRecursion (λ p. p.packet.ts ≡ t) pieces) (sym ts.0) ts.1) in
       let starts_alone : first_alone starts (piece ∷ pieces) ≡ true = and_from (starts piece) (list_all (λ p. not (starts p)) pieces) (start.0.1 number) (later_starts-to codec packets starts run.first (run.first + 1) pieces (omega arith) are.1 start.1) in
       let ends_alone : last_alone (λ p. p.packet.marker) (piece ∷ pieces) ≡ true = last-to codec packets starts (λ p. p.packet.marker) run.last run.first piece pieces size are marker in
-      let all_hold : conditions codec front times packets piece pieces ≡ true = and_from (list_all (λ p. p.packet.ts == piece.packet.ts) pieces && first_alone starts (piece ∷ pieces)) (last_alone (λ p. p.packet.marker) (piece ∷ pieces))
+      let all_hold : conditions codec starts packets piece pieces ≡ true = and_from (list_all (λ p. p.packet.ts == piece.packet.ts) pieces && first_alone starts (piece ∷ pieces)) (last_alone (λ p. p.packet.marker) (piece ∷ pieces))
       (and_from (list_all (λ p. p.packet.ts == piece.packet.ts) pieces) (first_alone starts (piece ∷ pieces)) times_agree starts_alone) ends_alone in
       let keys : list_any (λ p. p.part.key) (piece ∷ pieces) ≡ run.key = same_test (list_any (λ p. p.part.key) (piece ∷ pieces)) run.key (λ h. key.1 (list_any-from (λ p. p.part.key) (piece ∷ pieces) h)) (λ h. list_any-to (λ p. p.part.key) (piece ∷ pieces) (key.0 h).0 (key.0 h).1 (key.0 h).2) in
-      let from : List ℕ → Run = made codec front times packets run.last piece pieces in
+      let from : List ℕ → Run = made codec starts packets run.last piece pieces in
       ap (λ b. cond b (option_map from (result_ok (codec.join (map (λ p. p.part) (piece ∷ pieces))))) None) all_hold
       ∙ ap (λ r. option_map from (result_ok r)) joins
       ∙ ap Some (same_run (from run.bytes) run number refl ts.0 keys (sym layers) refl)
 
   -- a run lies between its first and last number
   between-to : (run : Run) (pieces : List Piece) → ArePieces codec packets run.first pieces → run.first + length pieces ≡ run.last + 1 → run.first ≤ run.last
-      → AllByRecursion (λ p. p.packet.ts ≡ run.ts) pieces → AllByRecursion (λ p. (is_start front times p ≡ true) ↔ (p.number ≡ run.first)) pieces → AllByRecursion (λ p. (p.packet.marker ≡ true) ↔ (p.number ≡ run.last)) pieces
-      → (run.key ≡ true) ↔ ((p : Piece) × Contains pieces p × (p.part.key ≡ true)) → IsSomeAnd (slice_get pieces 0) (λ p. run.layers ≡ p.part.layers) → codec.join (map (λ p. p.part) pieces) ≡ Ok run.bytes → between codec front times packets run.first run.last ≡ Some run
+      → AllByRecursion (λ p. p.packet.ts ≡ run.ts) pieces → AllByRecursion (λ p. (starts p ≡ true) ↔ (p.number ≡ run.first)) pieces → AllByRecursion (λ p. (p.packet.marker ≡ true) ↔ (p.number ≡ run.last)) pieces
+      → (run.key ≡ true) ↔ ((p : Piece) × Contains pieces p × (p.part.key ≡ true)) → IsSomeAnd (slice_get pieces 0) (λ p. run.layers ≡ p.part.layers) → codec.join (map (λ p. p.part) pieces) ≡ Ok run.bytes → between codec starts packets run.first run.last ≡ Some run
   between-to run [] are size within ts start marker key layers joins = absurd (omega arith)
   between-to run (piece ∷ pieces) are size within ts start marker key layers joins =
       let many : run.last + 1 - run.first ≡ length (piece ∷ pieces) = omega arith in
-      ap (λ k. all_some (map (piece_at codec packets) (numbers_from run.first k)) >>= run_of codec (is_start front times) run.last) many
-      ∙ ap (λ o. o >>= run_of codec (is_start front times) run.last) (pieces-to codec packets run.first (piece ∷ pieces) are)
+      ap (λ k. all_some (map (piece_at codec packets) (numbers_from run.first k)) >>= run_of codec starts run.last) many
+      ∙ ap (λ o. o >>= run_of codec starts run.last) (pieces-to codec packets run.first (piece ∷ pieces) are)
       ∙ run_of-to run piece pieces are size ts start marker key layers joins
 
   -- what the conditions hold of is among the runs
-  pub runs-to : (run : Run) → IsRun codec front times packets run → Contains (runs codec front times packets) run
+  pub runs-to : (run : Run) → IsRunBy codec starts packets run → Contains (runs_by codec starts packets) run
   runs-to run r =
       let numbers : List ℕ = map (λ entry. entry.0) packets in
       let within : run.first ≤ run.last = r.not_empty in
       let size : run.first + length r.pieces ≡ run.last + 1 = r.to_last in
       let first : Contains numbers run.first = available-key packets run.first (pieces-available codec packets run.first run.first r.pieces r.from_first (omega arith) (omega arith)) in
       let last : Contains numbers run.last = available-key packets run.last (pieces-available codec packets run.first run.last r.pieces r.from_first within (omega arith)) in
-      flat_map-to (λ n. filter_map (between codec front times packets n) numbers) numbers run.first run first
-      (filter_map-to (between codec front times packets run.first) numbers run.last run last
+      flat_map-to (λ n. filter_map (between codec starts packets n) numbers) numbers run.first run first
+      (filter_map-to (between codec starts packets run.first) numbers run.last run last
       (between-to run r.pieces r.from_first size within (recursion_from_All _ r.pieces r.ts) (recursion_from_All _ r.pieces r.start) (recursion_from_All _ r.pieces r.marker) r.key r.layers r.joins))
 
 -- the runs are just what the conditions hold of
 pub runs_are : RunsHolds
-runs_are codec front times packets run = (runs-from codec front times packets run, runs-to codec front times packets run)
+runs_are codec front times packets run = (runs-from codec (is_start front times) packets run, runs-to codec (is_start front times) packets run)

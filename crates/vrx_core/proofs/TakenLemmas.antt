@@ -1,22 +1,21 @@
 -- What is taken of a sender's datagram.
-use Rattle.std.proofs.Common.{◌≡◌, ℕ, ◌≤◌, Bool, true, false, List, length, Option, Some, None, is_some, IsSomeAnd, Result, Ok, Err, ok_or, option_and_then, slice_get, slice_index, refl, sym, ◌∙◌, ap, subst, inl, inr}
+use Rattle.std.proofs.Common.{◌≡◌, ℕ, Bool, true, false, List, Option, Some, None, is_some, IsSomeAnd, Result, Ok, Err, ok_or, option_and_then, slice_get, refl, sym, ◌∙◌, ap, subst, inl, inr}
 use Rattle.vrx_num.specs.Extended.{extended}
 use Rattle.std.proofs.lemmas.Option.{same_Some}
 use Rattle.vrx_rtp.specs.Packet.{Packet, AreOctets, IsPacket}
 use Rattle.vrx_rtp.specs.Reading.{reading, read}
 use Rattle.vrx_rtp.specs.Rtcp.{IsRtcp}
-use Rattle.vrx_vp8.specs.Descriptor.{bit}
 use Rattle.std.specs.Result.{result_ok}
 use Rattle.vrx_codec.specs.Meaning.{Meaning}
 use Rattle.vrx_core.specs.Window.{Content, Packets, is_available}
 use Rattle.vrx_core.specs.Window as window
-use Rattle.vrx_core.specs.Form.{aside, is_aside}
+use Rattle.vrx_core.specs.Form.{payload_reason, aside, is_aside}
 use Rattle.vrx_core.specs.Text.{without_padding, packet_text, text_in}
 use Rattle.vrx_core.specs.Verdict.{refused, number_of, is_too_old, verdict, ◌>>=◌, ◌>>◌}
 use Rattle.vrx_core.specs.Sender.{SentPacket, Media, Sender, wire_of}
 use Rattle.vrx_core.specs.WireForm.{IsPadded, IsWireForm, content_of}
 use Rattle.vrx_core.specs.HonestSender.{Carried, IsMedia, HonestSender}
-use Rattle.vrx_core.proofs.AsideLemmas.{stream-taken, plain-form}
+use Rattle.vrx_core.proofs.AsideLemmas.{stream-taken, part-form}
 use Rattle.vrx_core.proofs.TextLemmas.{ReadsPacket, reading-ok, text-packet, plain-text, rtcp-text, text_in-packet}
 use Rattle.vrx_core.proofs.PartLemmas.{IsSent, packet_sent, text_sent, some_from, some_there}
 use Rattle.vrx_core.specs.declared.settings.Settings.{Settings}
@@ -58,8 +57,8 @@ rows_taken text None (Some m) old again n content e =
     (ap (λ (x : ℕ × Content). Some x.0) same, sym (ap (λ (x : ℕ × Content). x.1) same))
 
 -- what is taken has the number of the datagram, and is its text as media
-pub verdict_taken : (settings : Settings) (newest : Option ℕ) (packets : Packets) (octets : List ℕ) (n : ℕ) (content : Content) → verdict settings newest packets octets ≡ Ok (n, content) → (number_of newest octets ≡ Some n) × (content ≡ window.Media (text_in octets))
-verdict_taken settings newest packets octets n content e = rows_taken (text_in octets) (aside settings octets) (number_of newest octets) (is_too_old newest) (λ m. is_available m packets) n content e
+pub verdict_taken : (settings : Settings) (codec : Meaning) (newest : Option ℕ) (packets : Packets) (octets : List ℕ) (n : ℕ) (content : Content) → verdict settings codec newest packets octets ≡ Ok (n, content) → (number_of newest octets ≡ Some n) × (content ≡ window.Media (text_in octets))
+verdict_taken settings codec newest packets octets n content e = rows_taken (text_in octets) (aside settings codec octets) (number_of newest octets) (is_too_old newest) (λ m. is_available m packets) n content e
 
 -- where the last two rows take, neither of their conditions holds
 last_open : (old again : Bool) (x y : ℕ × Content) → (refused TooOld old >> (refused Repeat again >> Ok x)) ≡ Ok y → (old ≡ false) × (again ≡ false)
@@ -76,8 +75,8 @@ rows_open text None (Some m) old again n content e =
     subst (λ (k : ℕ). (old k ≡ false) × (again k ≡ false)) same (last_open (old m) (again m) (m, window.Media text) (n, content) e)
 
 -- what is taken lies in the window, and wasn't available
-pub verdict_open : (settings : Settings) (newest : Option ℕ) (packets : Packets) (octets : List ℕ) (n : ℕ) (content : Content) → verdict settings newest packets octets ≡ Ok (n, content) → (is_too_old newest n ≡ false) × (is_available n packets ≡ false)
-verdict_open settings newest packets octets n content e = rows_open (text_in octets) (aside settings octets) (number_of newest octets) (is_too_old newest) (λ m. is_available m packets) n content e
+pub verdict_open : (settings : Settings) (codec : Meaning) (newest : Option ℕ) (packets : Packets) (octets : List ℕ) (n : ℕ) (content : Content) → verdict settings codec newest packets octets ≡ Ok (n, content) → (is_too_old newest n ≡ false) × (is_available n packets ≡ false)
+verdict_open settings codec newest packets octets n content e = rows_open (text_in octets) (aside settings codec octets) (number_of newest octets) (is_too_old newest) (λ m. is_available m packets) n content e
 
 -- the table takes a number of which no condition holds
 rows_take : (text : List ℕ) (form : Option NotTaken) (number : Option ℕ) (old again : ℕ → Bool) (n : ℕ) → form ≡ None → number ≡ Some n → old n ≡ false → again n ≡ false → rows text form number old again ≡ Ok (n, window.Media text)
@@ -93,8 +92,8 @@ absent None h = refl
 absent (Some left) h = absurd (cc)
 
 -- a datagram is taken where it has a form that is taken and a number that lies in the window and isn't available
-pub verdict_take : (settings : Settings) (newest : Option ℕ) (packets : Packets) (octets : List ℕ) (n : ℕ) → is_aside settings octets ≡ false → number_of newest octets ≡ Some n → is_too_old newest n ≡ false → is_available n packets ≡ false → verdict settings newest packets octets ≡ Ok (n, window.Media (text_in octets))
-verdict_take settings newest packets octets n form is old again = rows_take (text_in octets) (aside settings octets) (number_of newest octets) (is_too_old newest) (λ m. is_available m packets) n (absent (aside settings octets) form) is old again
+pub verdict_take : (settings : Settings) (codec : Meaning) (newest : Option ℕ) (packets : Packets) (octets : List ℕ) (n : ℕ) → is_aside settings codec octets ≡ false → number_of newest octets ≡ Some n → is_too_old newest n ≡ false → is_available n packets ≡ false → verdict settings codec newest packets octets ≡ Ok (n, window.Media (text_in octets))
+verdict_take settings codec newest packets octets n form is old again = rows_take (text_in octets) (aside settings codec octets) (number_of newest octets) (is_too_old newest) (λ m. is_available m packets) n (absent (aside settings codec octets) form) is old again
 
 -- what some value is
 present : (o : Option NotTaken) → is_some o ≡ true → (left : NotTaken) × (o ≡ Some left)
@@ -102,9 +101,9 @@ present None h = absurd (cc)
 present (Some left) h = (left, refl)
 
 -- octets that aren't taken whatever came before aren't
-pub verdict_aside : (settings : Settings) (newest : Option ℕ) (packets : Packets) (octets : List ℕ) → is_aside settings octets ≡ true → (left : NotTaken) × (verdict settings newest packets octets ≡ Err left)
-verdict_aside settings newest packets octets e =
-    let left = present (aside settings octets) e in
+pub verdict_aside : (settings : Settings) (codec : Meaning) (newest : Option ℕ) (packets : Packets) (octets : List ℕ) → is_aside settings codec octets ≡ true → (left : NotTaken) × (verdict settings codec newest packets octets ≡ Err left)
+verdict_aside settings codec newest packets octets e =
+    let left = present (aside settings codec octets) e in
     (left.0, ap (λ form. rows (text_in octets) form (number_of newest octets) (is_too_old newest) (λ m. is_available m packets)) left.1)
 
 -- the number of a text that reads as a packet of this wire number
@@ -113,19 +112,19 @@ number_of-text newest text packet wire reads same = ap (option_and_then (λ (p :
 
 -- a datagram brings the sender's packet of this place: it reads as a packet of its number, and is of a form that is
 -- taken
-pub record Brings (settings : Settings) (sender : Sender) (i : ℕ) (octets : List ℕ) : Type 0 where
+pub record Brings (settings : Settings) (codec : Meaning) (sender : Sender) (i : ℕ) (octets : List ℕ) : Type 0 where
   pub packet : Packet
   pub reads : read octets ≡ Some packet
   pub number : packet.seq ≡ wire_of sender i
-  pub form : is_aside settings octets ≡ false
+  pub form : is_aside settings codec octets ≡ false
   pub carried : IsSomeAnd (slice_get sender.packets i) (λ packet. window.Media (text_in octets) ≡ content_of packet)
 
 module _ (settings : Settings) (codec : Meaning) where
   -- the text of a media packet isn't set aside
-  media_taken : (wire : ℕ) (carried : Carried) → IsMedia settings codec wire carried → is_aside settings carried.text ≡ false
-  media_taken wire carried m = stream-taken settings carried.text carried.packet
+  media_taken : (wire : ℕ) (carried : Carried) → IsMedia settings codec wire carried → is_aside settings codec carried.text ≡ false
+  media_taken wire carried m = stream-taken settings codec carried.text carried.packet
       (record { rtp = record { size = m.size; other = m.no_rtcp }; reads = reading-ok (reading carried.text) carried.packet m.reads })
-      (record { source = m.source; type = m.type }) (plain-form carried.packet m.long m.no_extension)
+      (record { source = m.source; type = m.type }) (part-form codec carried.packet.payload carried.part m.payload m.part_reads m.layers)
 
 module _ (law : ReadsPacket) (settings : Settings) (codec : Meaning) where
   -- a media packet's text is its packet's text
@@ -140,14 +139,14 @@ module _ (law : ReadsPacket) (settings : Settings) (codec : Meaning) where
       (is, same_Some (without_padding w.packet) carried.packet (sym (ap result_ok again) ∙ ap read w.spelled ∙ m.reads))
 
   -- such octets aren't set aside
-  padded_taken : (octets : List ℕ) (wire : ℕ) (carried : Carried) → IsMedia settings codec wire carried → IsPadded carried.text octets → is_aside settings octets ≡ false
+  padded_taken : (octets : List ℕ) (wire : ℕ) (carried : Carried) → IsMedia settings codec wire carried → IsPadded carried.text octets → is_aside settings codec octets ≡ false
   padded_taken octets wire carried m w =
       let p : IsPacket octets w.packet × (without_padding w.packet ≡ carried.packet) = padded_packet octets wire carried m w in
       let payload : w.packet.payload ≡ carried.packet.payload = ap (λ (q : Packet). q.payload) p.1 in
-      stream-taken settings octets w.packet
+      stream-taken settings codec octets w.packet
       (record { rtp = record { size = w.size; other = λ r. m.no_rtcp (subst IsRtcp w.spelled (rtcp-text octets w.packet p.0 r)) }; reads = reading-ok (reading octets) w.packet w.reads })
       (record { source = ap (λ (q : Packet). q.ssrc) p.1 ∙ m.source; type = ap (λ (q : Packet). q.pt) p.1 ∙ m.type })
-      (plain-form w.packet (subst (λ (x : List ℕ). 2 ≤ length x) (sym payload) m.long) (ap (λ (x : List ℕ). bit 128 (slice_index x 0)) payload ∙ m.no_extension))
+      (ap (payload_reason codec) payload ∙ part-form codec carried.packet.payload carried.part m.payload m.part_reads m.layers)
 
 module _ (law : ReadsPacket) (settings : Settings) (codec : Meaning) (sender : Sender) (honest : HonestSender settings codec sender) (i : ℕ) (octets : List ℕ) where
   -- the packet that is sent at this place, with a text
@@ -157,7 +156,7 @@ module _ (law : ReadsPacket) (settings : Settings) (codec : Meaning) (sender : S
       (s, ap text_sent (same_Some (Media s.f s.k s.carried.text) (Media f k text) (sym s.part.sent ∙ there)))
 
   -- a text is that of the packet
-  brings_text : (f k : ℕ) (text : List ℕ) → slice_get sender.packets i ≡ Some (Media f k text) → octets ≡ text → Brings settings sender i octets
+  brings_text : (f k : ℕ) (text : List ℕ) → slice_get sender.packets i ≡ Some (Media f k text) → octets ≡ text → Brings settings codec sender i octets
   brings_text f k text there same =
       let s : (s : IsSent settings codec sender honest i) × (s.carried.text ≡ text) = sent_text f k text there in
       let m : IsMedia settings codec (wire_of sender i) s.0.carried = s.0.part.media in
@@ -167,13 +166,13 @@ module _ (law : ReadsPacket) (settings : Settings) (codec : Meaning) (sender : S
         packet = s.0.carried.packet;
         reads = reads;
         number = m.number;
-        form = ap (is_aside settings) text_is ∙ media_taken settings codec (wire_of sender i) s.0.carried m;
+        form = ap (is_aside settings codec) text_is ∙ media_taken settings codec (wire_of sender i) s.0.carried m;
         carried = some_from (λ p. window.Media (text_in octets) ≡ content_of p) (slice_get sender.packets i) (Media f k text) there
             (ap window.Media (text_in-packet octets s.0.carried.packet reads ∙ sym (media_text law settings codec (wire_of sender i) s.0.carried m) ∙ s.1));
       }
 
   -- a text with padding is that of the packet
-  brings_padded : (f k : ℕ) (text : List ℕ) → slice_get sender.packets i ≡ Some (Media f k text) → IsPadded text octets → Brings settings sender i octets
+  brings_padded : (f k : ℕ) (text : List ℕ) → slice_get sender.packets i ≡ Some (Media f k text) → IsPadded text octets → Brings settings codec sender i octets
   brings_padded f k text there padded =
       let s : (s : IsSent settings codec sender honest i) × (s.carried.text ≡ text) = sent_text f k text there in
       let m : IsMedia settings codec (wire_of sender i) s.0.carried = s.0.part.media in
@@ -189,12 +188,12 @@ module _ (law : ReadsPacket) (settings : Settings) (codec : Meaning) (sender : S
       }
 
   -- the packet that is there
-  brings_packet : (packet : SentPacket) → slice_get sender.packets i ≡ Some packet → IsWireForm packet octets → Brings settings sender i octets
+  brings_packet : (packet : SentPacket) → slice_get sender.packets i ≡ Some packet → IsWireForm packet octets → Brings settings codec sender i octets
   brings_packet (Media f k text) there (inl same) = brings_text f k text there same
   brings_packet (Media f k text) there (inr padded) = brings_padded f k text there padded
 
   -- a wire form of an honest sender's packet brings it
-  pub brings : IsSomeAnd (slice_get sender.packets i) (λ packet. IsWireForm packet octets) → Brings settings sender i octets
+  pub brings : IsSomeAnd (slice_get sender.packets i) (λ packet. IsWireForm packet octets) → Brings settings codec sender i octets
   brings wire =
       let p : (packet : SentPacket) × (slice_get sender.packets i ≡ Some packet) × IsWireForm packet octets = some_there (λ packet. IsWireForm packet octets) (slice_get sender.packets i) wire in
       brings_packet p.0 p.1 p.2

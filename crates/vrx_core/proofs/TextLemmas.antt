@@ -1,5 +1,5 @@
 -- What is kept of a datagram: the text of its packet, without padding.
-use Rattle.std.proofs.Common.{◌≡◌, ℕ, ◌+◌, ◌/◌, ◌<◌, ◌≤◌, ◌↔◌, Bool, true, false, if◌then◌else◌, List, [], ◌∷◌, ◌++◌, length, ◌-◌, slice_index, Option, Some, None, Result, Ok, Err, IfOk, IsSomeAnd, refl, sym, ◌∙◌, ap, subst, arith, option_and_then}
+use Rattle.std.proofs.Common.{◌≡◌, ℕ, ◌+◌, ◌/◌, ◌<◌, ◌≤◌, ◌↔◌, Bool, true, false, if◌then◌else◌, List, [], ◌∷◌, ◌++◌, length, ◌-◌, Option, Some, None, Result, Ok, Err, IfOk, IsSomeAnd, refl, sym, ◌∙◌, ap, subst, arith, option_and_then}
 use Rattle.std.specs.Int.{w16, w32, to_be_bytes}
 use Rattle.std.specs.Option.{option_map_or}
 use Rattle.std.specs.Result.{result_ok}
@@ -12,14 +12,14 @@ use Rattle.vrx_num.specs.Extended.{extended}
 use Rattle.vrx_rtp.specs.Packet.{Packet, AreOctets, Fits, IsPacket, first_octet, marker_and_type, fixed_header, extension_octets, padding_octets, spelled_with}
 use Rattle.vrx_rtp.specs.Reading.{reading, read}
 use Rattle.vrx_rtp.specs.Rtcp.{IsRtcp}
-use Rattle.vrx_vp8.specs.Descriptor.{bit}
+use Rattle.vrx_codec.specs.Meaning.{Meaning}
 use Rattle.vrx_rtp.specs.declared.fault.RtpFault.{RtpFault}
-use Rattle.vrx_core.specs.Form.{is_aside}
+use Rattle.vrx_core.specs.Form.{payload_reason, is_aside}
 use Rattle.vrx_core.specs.Text.{without_padding, packet_text, text_in, TextsHold}
 use Rattle.vrx_core.specs.Window.{Content}
 use Rattle.vrx_core.specs.Window as window
 use Rattle.vrx_core.specs.declared.settings.Settings.{Settings}
-use Rattle.vrx_core.proofs.AsideLemmas.{rtcp-from, stream-taken, plain-form}
+use Rattle.vrx_core.proofs.AsideLemmas.{rtcp-from, stream-taken, part-form}
 use Rattle.vrx_core.proofs.FormLemmas.{IsTakenPacket, taken_packet}
 
 -- the law of RTP packets: octets, each below 256, read as the packet that they are
@@ -77,21 +77,21 @@ rtcp-text octets p is rtcp =
     record { has_type = omega arith; at_least = r.at_least; at_most = r.at_most }
 
 -- octets that aren't set aside have a text that isn't
-pub text-taken : (settings : Settings) (octets : List ℕ) (p : Packet) → IsPacket octets p → read octets ≡ Some p → reading (packet_text p) ≡ Ok (without_padding p) → is_aside settings octets ≡ false → is_aside settings (packet_text p) ≡ false
-text-taken settings octets p is reads again free =
-    let k : IsTakenPacket settings octets = taken_packet settings octets free in
+pub text-taken : (settings : Settings) (codec : Meaning) (octets : List ℕ) (p : Packet) → IsPacket octets p → read octets ≡ Some p → reading (packet_text p) ≡ Ok (without_padding p) → is_aside settings codec octets ≡ false → is_aside settings codec (packet_text p) ≡ false
+text-taken settings codec octets p is reads again free =
+    let k : IsTakenPacket settings codec octets = taken_packet settings codec octets free in
     let same : k.packet ≡ p = same_Some k.packet p (sym k.reads ∙ reads) in
     let shorter : length (packet_text p) ≤ length octets = text-upto octets p is in
     let size : length octets ≤ 9216 = k.size in
-    stream-taken settings (packet_text p) (without_padding p)
+    stream-taken settings codec (packet_text p) (without_padding p)
     (record { rtp = record { size = omega arith; other = λ r. true≢false (sym (rtcp-from octets (text-rtcp octets p is r)) ∙ k.other) }; reads = again })
     (record { source = sym (ap (λ (q : Packet). q.ssrc) same) ∙ k.source; type = sym (ap (λ (q : Packet). q.pt) same) ∙ k.type })
-    (plain-form (without_padding p) (subst (λ (q : Packet). 2 ≤ length q.payload) same k.payload.long) (subst (λ (q : Packet). bit 128 (slice_index q.payload 0) ≡ false) same k.payload.no_extension))
+    (subst (λ (q : Packet). payload_reason codec q.payload ≡ None) same (part-form codec k.packet.payload k.payload.part k.payload.some k.payload.reads k.payload.plain))
 
 -- the same of a packet that was written so, if it was
-pub text-written : {E : Type 0} (settings : Settings) (octets : List ℕ) (p : Packet) (r : Result (List ℕ) E) → IsPacket octets p → read octets ≡ Some p → IfOk r (λ text. text ≡ packet_text p) → IfOk r (λ text. reading text ≡ Ok (without_padding p)) → is_aside settings octets ≡ false → IfOk r (λ text. is_aside settings text ≡ false)
-text-written settings octets p (Ok text) is reads same again free = ap (is_aside settings) same ∙ text-taken settings octets p is reads (ap reading (sym same) ∙ again) free
-text-written settings octets p (Err e) is reads same again free = tt
+pub text-written : {E : Type 0} (settings : Settings) (codec : Meaning) (octets : List ℕ) (p : Packet) (r : Result (List ℕ) E) → IsPacket octets p → read octets ≡ Some p → IfOk r (λ text. text ≡ packet_text p) → IfOk r (λ text. reading text ≡ Ok (without_padding p)) → is_aside settings codec octets ≡ false → IfOk r (λ text. is_aside settings codec text ≡ false)
+text-written settings codec octets p (Ok text) is reads same again free = ap (is_aside settings codec) same ∙ text-taken settings codec octets p is reads (ap reading (sym same) ∙ again) free
+text-written settings codec octets p (Err e) is reads same again free = tt
 
 -- the first of two lists of octets, and the second
 first-octets : (xs ys : List ℕ) → AreOctets (xs ++ ys) → AreOctets xs

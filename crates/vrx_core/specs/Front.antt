@@ -12,8 +12,8 @@ abbrev pub reached : ℕ → Packets → ℕ
 reached from [] = from
 reached from (entry ∷ entries) = if (entry.0 == from + 1) && is_no_media entry.1 then reached (from + 1) entries else reached from entries
 
--- the front after an event: nothing is passed before the first frame is pulled. After it, all numbers are up to
--- the front before and up to the last number of the last frame pulled, and on over available numbers that are no media
+-- the front after an event: nothing is passed before the first frame is pulled. After it, all numbers are up to the
+-- front before and up to the last number of the last frame pulled, and on over available numbers that are no media
 abbrev pub front_after : Option ℕ → Option ℕ → Packets → Option ℕ
 front_after before None packets = None
 front_after None (Some last) packets = Some (reached last packets)

@@ -21,7 +21,8 @@ pub record IsSentFrame (sent : SentFrame) (frame : Frame) : Type 0 where
   pub key : frame.key ≡ sent.key
   pub bytes : frame.bytes ≡ sent.bytes
 
--- a frame pulled after a history is the sender's frame f, under its packets' numbers; f is ready, and the least that is
+-- a frame pulled after a history is the sender's frame f, under its packets' numbers; f is ready, and the least that
+-- is
 pub record IsLeastReady (settings : Settings) (codec : Meaning) (sender : Sender) (h : List Event) (origins : List Origin) (frame : Frame) (f : ℕ) : Type 0 where
   pub ready : Ready settings codec sender h origins f
   pub least : (g : ℕ) → Ready settings codec sender h origins g → f ≤ g
@@ -29,8 +30,8 @@ pub record IsLeastReady (settings : Settings) (codec : Meaning) (sender : Sender
   pub last : frame.last ≡ ready.complete.last
   pub sent : IsSentFrame ready.complete.frame frame
 
--- a pull gives the least ready frame, of this place, and NotReady exactly where no frame is ready. What gives no frame
--- has no place
+-- a pull gives the least ready frame, of this place, and NotReady exactly where no frame is ready. What gives no
+-- frame has no place
 abbrev pub IsAnswer : Settings → Meaning → Sender → List Event → List Origin → Event → Reply → Option ℕ → Type 0
 IsAnswer settings codec sender h origins (Pull moment) (ToPull pulls.NotReady) None = (f : ℕ) → Ready settings codec sender h origins f → ⊥
 IsAnswer settings codec sender h origins (Pull moment) (ToPull (pulls.Frame frame)) (Some f) = IsLeastReady settings codec sender h origins frame f
@@ -86,7 +87,6 @@ pub record HonestCall (settings : Settings) (codec : Meaning) (sender : Sender) 
   pub from_key : BeginsWithKey (frames_of replies)
   pub after_references : AfterReferences sender [] (places_of given)
 
--- every honest call is answered so, whatever the settings and the codec's meaning. The forms that the receiver takes so
--- far name VP8's bits, whatever the codec
+-- every honest call is answered so, whatever the settings and the codec's meaning
 abbrev pub HonestCallHolds : Type 0
 HonestCallHolds = (settings : Settings) (codec : Meaning) (sender : Sender) (events : List Event) (origins : List Origin) → HonestSender settings codec sender → HonestNetwork settings codec sender [] [] events origins → HonestCall settings codec sender events origins (replies settings codec [] events)

@@ -18,7 +18,7 @@ pub data Origin : Type 0 where
 
 -- whether the receiver takes these octets after a history
 abbrev pub takes : Settings → Meaning → List Event → List ℕ → Bool
-takes settings codec h octets = let s : Snapshot = latest (snapshots settings codec h) in is_ok (verdict settings s.newest s.packets octets)
+takes settings codec h octets = let s : Snapshot = latest (snapshots settings codec h) in is_ok (verdict settings codec s.newest s.packets octets)
 
 -- the sender's packets that were taken in a history, the newest first; the origins stand in the order of the events
 unfoldable pub taken : Settings → Meaning → List Event → List Origin → List ℕ
@@ -46,7 +46,7 @@ IsDelivery settings codec sender h origins (Tick moment) Elsewhere = Unit {0}
 IsDelivery settings codec sender h origins (Tick moment) (FromSender i) = ⊥
 IsDelivery settings codec sender h origins (Pull moment) Elsewhere = Unit {0}
 IsDelivery settings codec sender h origins (Pull moment) (FromSender i) = ⊥
-IsDelivery settings codec sender h origins (Datagram moment octets) Elsewhere = is_aside settings octets ≡ true
+IsDelivery settings codec sender h origins (Datagram moment octets) Elsewhere = is_aside settings codec octets ≡ true
 IsDelivery settings codec sender h origins (Datagram moment octets) (FromSender i) =
     IsSomeAnd (slice_get sender.packets i) (λ packet. IsWireForm packet octets) × IsNear i (taken settings codec h origins)
 

@@ -39,7 +39,6 @@ RunsRightlyFrom settings codec sender h origins (e ∷ es) (o ∷ os) =
 RunsRightlyFrom settings codec sender h origins [] (o ∷ os) = ⊥
 RunsRightlyFrom settings codec sender h origins (e ∷ es) [] = ⊥
 
--- in every honest call the runs are so, whatever the settings and the codec's meaning. The forms that the receiver takes
--- so far name VP8's bits, whatever the codec
+-- in every honest call the runs are so, whatever the settings and the codec's meaning
 abbrev pub HonestRunsHolds : Type 0
 HonestRunsHolds = (settings : Settings) (codec : Meaning) (sender : Sender) (events : List Event) (origins : List Origin) → HonestSender settings codec sender → HonestNetwork settings codec sender [] [] events origins → RunsRightlyFrom settings codec sender [] [] events origins

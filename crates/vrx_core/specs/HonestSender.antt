@@ -1,12 +1,12 @@
 -- An honest sender, for given settings and a codec. So far no frame has layers, and each packet is a part of a frame.
-use Rattle.std.specs.Prelude.{◌≡◌, ◌≢◌, ◌↔◌, ℕ, ◌+◌, ◌<◌, ◌≤◌, true, false, ◌==◌, if◌then◌else◌, List, [], ◌∷◌, map, length, slice_get, slice_index, All, Contains, Some, None, IfSome, Ok}
+use Rattle.std.specs.Prelude.{◌≡◌, ◌≢◌, ◌↔◌, ℕ, ◌+◌, ◌<◌, ◌≤◌, true, List, [], ◌∷◌, map, length, slice_get, All, Contains, Some, None, IfSome, Ok}
 use Rattle.vrx_rtp.specs.Packet.{Packet, AreOctets}
 use Rattle.vrx_rtp.specs.Reading.{read}
 use Rattle.vrx_codec.specs.Part.{Part}
-use Rattle.vrx_codec.specs.declared.part.Start.TheVariants.{Yes, No}
+use Rattle.vrx_codec.specs.declared.part.Start.{Start}
+use Rattle.vrx_codec.specs.declared.part.Start.TheVariants.{Yes, No, ByNeighbour}
 use Rattle.vrx_codec.specs.Meaning.{Meaning}
 use Rattle.vrx_rtp.specs.Rtcp.{IsRtcp}
-use Rattle.vrx_vp8.specs.Descriptor.{bit}
 use Rattle.vrx_core.specs.Sender.{SentFrame, Media, Sender, wire_of}
 use Rattle.vrx_core.specs.Chain.{InChain}
 use Rattle.vrx_core.specs.declared.settings.Settings.{Settings}
@@ -17,10 +17,9 @@ pub record Carried : Type 0 where
   pub packet : Packet
   pub part : Part
 
--- a media packet of the stream, under this sequence number: its text has at most 9,216 octets, each below 256, and reads
--- as an RTP packet without padding, with the media type and the media SSRC; its payload isn't empty and is read by the
--- codec (RFC 3550 5.1); and the text isn't RTCP (RFC 5761 4). So far the payload has two octets or more, and bit X of
--- the first is 0 (RFC 7741 4.2)
+-- a media packet of the stream, under this sequence number: its text has at most 9,216 octets, each below 256, and
+-- reads as an RTP packet without padding, with the media type and the media SSRC; its payload isn't empty and is read
+-- by the codec (RFC 3550 5.1); and the text isn't RTCP (RFC 5761 4). So far the part has no layers
 pub record IsMedia (settings : Settings) (codec : Meaning) (wire : ℕ) (carried : Carried) : Type 0 where
   pub size : length carried.text ≤ 9216
   pub below : AreOctets carried.text
@@ -32,19 +31,23 @@ pub record IsMedia (settings : Settings) (codec : Meaning) (wire : ℕ) (carried
   pub payload : carried.packet.payload ≢ []
   pub part_reads : codec.read carried.packet.payload ≡ Ok carried.part
   pub no_rtcp : IsRtcp carried.text → ⊥
-  pub long : 2 ≤ length carried.packet.payload
-  pub no_extension : bit 128 (slice_index carried.packet.payload 0) ≡ false
+  pub layers : carried.part.layers ≡ None
 
--- packet i is part k of frame f, which has so many parts: it has the frame's timestamp, has the marker where it is the
--- last part and not else, and begins the frame where it is the first part and not else (RFC 7741 4.1, 4.2); it has no
--- layers
+-- what part k of a frame may say of its beginning, k counted from 0: one that says that it begins the frame is the
+-- first, one that says that it doesn't isn't, and each may leave it to the packet before (RFC 7741 4.2, RFC 6184 5.1)
+abbrev pub SaysRightly : ℕ → Start → Type 0
+SaysRightly k Yes = k ≡ 0
+SaysRightly k No = k ≢ 0
+SaysRightly k ByNeighbour = Unit {0}
+
+-- packet i is part k of frame f, which has so many parts: it has the frame's timestamp, has the marker where it is
+-- the last part and not else (RFC 7741 4.1, RFC 6184 5.1), and says rightly whether it begins the frame
 pub record IsPart (settings : Settings) (codec : Meaning) (sender : Sender) (f : ℕ) (frame : SentFrame) (count k i : ℕ) (carried : Carried) : Type 0 where
   pub sent : slice_get sender.packets i ≡ Some (Media f k carried.text)
   pub media : IsMedia settings codec (wire_of sender i) carried
   pub timestamp : carried.packet.ts ≡ frame.ts
   pub marker : (carried.packet.marker ≡ true) ↔ (k + 1 ≡ count)
-  pub start : carried.part.start ≡ (if k == 0 then Yes else No)
-  pub layers : carried.part.layers ≡ None
+  pub start : SaysRightly k carried.part.start
 
 -- packet i is part k of the frame, packet i + 1 is part k + 1, and so on
 abbrev pub AreParts : Settings → Meaning → Sender → ℕ → SentFrame → ℕ → ℕ → ℕ → List Carried → Type 0
@@ -52,8 +55,8 @@ AreParts settings codec sender f frame count k i [] = Unit {0}
 AreParts settings codec sender f frame count k i (carried ∷ others) =
     IsPart settings codec sender f frame count k i carried × AreParts settings codec sender f frame count (k + 1) (i + 1) others
 
--- frame f travels in the packets from this place on: they are its parts, of which there is at least one, and join to its
--- bytes; it is a keyframe where some part says so
+-- frame f travels in the packets from this place on: they are its parts, of which there is at least one, and join to
+-- its bytes; it is a keyframe where some part says so
 pub record Travels (settings : Settings) (codec : Meaning) (sender : Sender) (f : ℕ) (frame : SentFrame) (place : ℕ) (parts : List Carried) : Type 0 where
   pub some : 0 < length parts
   pub each : AreParts settings codec sender f frame (length parts) 0 place parts

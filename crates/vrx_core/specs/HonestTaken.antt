@@ -49,8 +49,8 @@ IsTakenRightly settings codec sender h origins (Datagram moment octets) Elsewher
 IsTakenRightly settings codec sender h origins (Tick moment) origin = Unit {0}
 IsTakenRightly settings codec sender h origins (Pull moment) origin = Unit {0}
 
--- after a history and after each of the events that follow it, the packets available are those to keep; and each event
--- takes what is to be taken, and answers it by its number
+-- after a history and after each of the events that follow it, the packets available are those to keep; and each
+-- event takes what is to be taken, and answers it by its number
 abbrev pub TakesRightly : Settings → Meaning → Sender → List Event → List Origin → List Event → List Origin → Type 0
 TakesRightly settings codec sender h origins [] [] = KeepsRightly settings codec sender h origins
 TakesRightly settings codec sender h origins (e ∷ es) (o ∷ os) =
@@ -58,7 +58,6 @@ TakesRightly settings codec sender h origins (e ∷ es) (o ∷ os) =
 TakesRightly settings codec sender h origins [] (o ∷ os) = ⊥
 TakesRightly settings codec sender h origins (e ∷ es) [] = ⊥
 
--- every honest call takes and keeps so, whatever the settings and the codec's meaning. The forms that the receiver takes
--- so far name VP8's bits, whatever the codec
+-- every honest call takes and keeps so, whatever the settings and the codec's meaning
 abbrev pub HonestTakenHolds : Type 0
 HonestTakenHolds = (settings : Settings) (codec : Meaning) (sender : Sender) (events : List Event) (origins : List Origin) → HonestSender settings codec sender → HonestNetwork settings codec sender [] [] events origins → TakesRightly settings codec sender [] [] events origins

@@ -27,3 +27,4 @@ pub mod Held
 pub mod HonestTaken
 pub mod StandsFor
 pub mod Step
+pub mod Seen

@@ -90,7 +90,7 @@ after_pull s moment None = record s { now = max s.now moment }
 after_pull s moment (Some frame) = with_front s.front (record s { now = max s.now moment; pulled = frame ∷ s.pulled })
 
 abbrev pub next : Settings → Meaning → List Snapshot → Event → Snapshot
-next settings codec past (Datagram moment octets) = let s : Snapshot = latest past in after_datagram s moment (verdict settings s.newest s.packets octets)
+next settings codec past (Datagram moment octets) = let s : Snapshot = latest past in after_datagram s moment (verdict settings codec s.newest s.packets octets)
 next settings codec past (Tick moment) = after_tick (latest past) moment
 next settings codec past (Pull moment) = after_pull (latest past) moment (next_frame codec past)
 
@@ -105,7 +105,7 @@ what_of (Err left) = answer_of left
 what_of (Ok taken) = Media taken.0
 
 abbrev pub reply_now : Settings → Meaning → List Snapshot → Event → Reply
-reply_now settings codec past (Datagram moment octets) = let s : Snapshot = latest past in ToDatagram (handled_as (what_of (verdict settings s.newest s.packets octets)))
+reply_now settings codec past (Datagram moment octets) = let s : Snapshot = latest past in ToDatagram (handled_as (what_of (verdict settings codec s.newest s.packets octets)))
 reply_now settings codec past (Tick moment) = ToTick no_feedback
 reply_now settings codec past (Pull moment) = ToPull (pulled_of (next_frame codec past))
 

@@ -1,10 +1,14 @@
 -- A ready frame: one of the sender's frames that a pull may give. So far no frame has layers.
-use Rattle.std.specs.Prelude.{◌≡◌, ℕ, ◌+◌, ◌<◌, ◌≤◌, true, List, [], ◌∷◌, slice_get, All, Contains, Some}
+use Rattle.std.specs.Prelude.{◌≡◌, ◌⊎◌, ℕ, ◌+◌, ◌-◌, ◌<◌, ◌≤◌, true, List, [], ◌∷◌, map, slice_get, All, Contains, Some, IsSomeAnd, Ok}
+use Rattle.vrx_rtp.specs.Packet.{Packet}
+use Rattle.vrx_rtp.specs.Reading.{read}
+use Rattle.vrx_codec.specs.Part.{Part}
+use Rattle.vrx_codec.specs.declared.part.Start.TheVariants.{Yes}
 use Rattle.vrx_codec.specs.Meaning.{Meaning}
-use Rattle.vrx_core.specs.Window.{is_available}
+use Rattle.vrx_core.specs.Window.{Packets, is_available}
 use Rattle.vrx_core.specs.Run.{is_passed}
 use Rattle.vrx_core.specs.Machine.{latest, snapshots}
-use Rattle.vrx_core.specs.Sender.{SentFrame, Sender, Spans, wire_of}
+use Rattle.vrx_core.specs.Sender.{SentFrame, SentPacket, Media, Sender, Spans, wire_of}
 use Rattle.vrx_core.specs.Chain.{IsRuleReference}
 use Rattle.vrx_core.specs.HonestNetwork.{Origin, taken}
 use Rattle.vrx_core.specs.declared.settings.Settings.{Settings}
@@ -26,8 +30,24 @@ pub record HasNumbers (sender : Sender) (js : List ℕ) (f first last : ℕ) : T
   pub first_is : IsNumber sender js from first
   pub last_is : IsNumber sender js to last
 
--- frame f of the sender stands complete after a history: each of its packets is available, and it lies beyond every
--- frame that was pulled
+-- a packet says that a frame begins with it
+abbrev pub SaysStart : Meaning → SentPacket → Type 0
+SaysStart codec (Media frame part text) = (packet : Packet) × (said : Part) × (read text ≡ Some packet) × (codec.read packet.payload ≡ Ok said) × (said.start ≡ Yes)
+
+-- n and the number before were both available at some time
+abbrev pub WereBeside : List Packets → ℕ → Type 0
+WereBeside times n = (packets : Packets) × Contains times packets × (is_available n packets ≡ true) × (is_available (n - 1) packets ≡ true)
+
+-- it is evident after a history that a frame begins with packet i, which the receiver knows by the number n: the
+-- packet says so; or the number before is passed; or both numbers were available at the end of some event so far
+abbrev pub BeginsEvidently : Settings → Meaning → Sender → List Event → ℕ → ℕ → Type 0
+BeginsEvidently settings codec sender h i n =
+    IsSomeAnd (slice_get sender.packets i) (SaysStart codec)
+    ⊎ ((is_passed (latest (snapshots settings codec h)).front (n - 1) ≡ true)
+    ⊎ WereBeside (map (λ s. s.packets) (snapshots settings codec h)) n)
+
+-- frame f of the sender stands complete after a history: each of its packets is available, it lies beyond every frame
+-- that was pulled, and it is evident where it begins
 pub record StandsComplete (settings : Settings) (codec : Meaning) (sender : Sender) (h : List Event) (origins : List Origin) (f : ℕ) : Type 0 where
   pub frame : SentFrame
   pub sent : slice_get sender.frames f ≡ Some frame
@@ -36,9 +56,10 @@ pub record StandsComplete (settings : Settings) (codec : Meaning) (sender : Send
   pub numbered : HasNumbers sender (taken settings codec h origins) f first last
   pub available : (n : ℕ) → first ≤ n → n ≤ last → is_available n (latest (snapshots settings codec h)).packets ≡ true
   pub beyond : All (λ frame. frame.last < first) (latest (snapshots settings codec h)).pulled
+  pub begins : BeginsEvidently settings codec sender h numbered.from first
 
--- frame g was pulled, and it is evident that a frame which begins with this number follows it: every number between them
--- is passed
+-- frame g was pulled, and it is evident that a frame which begins with this number follows it: every number between
+-- them is passed
 pub record Follows (settings : Settings) (codec : Meaning) (sender : Sender) (h : List Event) (origins : List Origin) (g first : ℕ) : Type 0 where
   pub frame : Frame
   pub pulled : Contains (latest (snapshots settings codec h)).pulled frame

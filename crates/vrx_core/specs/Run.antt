@@ -28,13 +28,16 @@ text_of (Media text) = Some text
 text_of (Fec payload) = None
 text_of Empty = None
 
-abbrev pub piece_at : Meaning → Packets → ℕ → Option Piece
-piece_at codec packets n = do
-  content ← at n packets
+-- what a number is, if it stands for this
+abbrev pub piece_of : Meaning → ℕ → Content → Option Piece
+piece_of codec n content = do
   text ← text_of content
   packet ← read text
   part ← result_ok (codec.read packet.payload)
   Some (record { number = n; packet = packet; part = part })
+
+abbrev pub piece_at : Meaning → Packets → ℕ → Option Piece
+piece_at codec packets n = at n packets >>= piece_of codec n
 
 -- n, n + 1 and so on, as many as are asked for
 abbrev pub numbers_from : ℕ → ℕ → List ℕ
@@ -64,9 +67,13 @@ abbrev pub is_passed : Option ℕ → ℕ → Bool
 is_passed None n = false
 is_passed (Some front) n = nat_le n front
 
+-- n and the number before are both available, and the number before ends a frame
+abbrev pub stands_behind : ℕ → Packets → Bool
+stands_behind n packets = is_available n packets && option_map_or ends_frame (at (n - 1) packets) false
+
 -- at the end of some event so far n and the number before were both available, and the number before ended a frame
 abbrev pub began_behind : List Packets → ℕ → Bool
-began_behind times n = list_any (λ packets. is_available n packets && option_map_or ends_frame (at (n - 1) packets) false) times
+began_behind times n = list_any (stands_behind n) times
 
 -- what the payload says, or else the packet before it
 abbrev pub begins : Start → Bool → Bool
@@ -108,8 +115,12 @@ run_of codec starts last (piece ∷ pieces) =
     then option_map (λ bytes. record { first = piece.number; last = last; ts = piece.packet.ts; key = list_any (λ p. p.part.key) (piece ∷ pieces); layers = piece.part.layers; bytes = bytes }) (result_ok (codec.join (map (λ p. p.part) (piece ∷ pieces))))
     else None
 
--- the runs, by their first number and then by their last
-abbrev pub runs : Meaning → Option ℕ → List Packets → Packets → List Run
-runs codec front times packets = flat_map (λ first. filter_map (λ last. stretch codec packets first last >>= run_of codec (is_start front times) last) numbers) numbers where
+-- the runs whose starts are those of this test, by their first number and then by their last
+abbrev pub runs_by : Meaning → (Piece → Bool) → Packets → List Run
+runs_by codec starts packets = flat_map (λ first. filter_map (λ last. stretch codec packets first last >>= run_of codec starts last) numbers) numbers where
   numbers : List ℕ
   numbers = map (λ entry. entry.0) packets
+
+-- the runs
+abbrev pub runs : Meaning → Option ℕ → List Packets → Packets → List Run
+runs codec front times packets = runs_by codec (is_start front times) packets

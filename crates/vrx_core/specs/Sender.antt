@@ -1,8 +1,8 @@
 -- A sender: what was sent, whatever came of it. So far a frame has no layers, and a sender sends media packets alone.
 use Rattle.std.specs.Prelude.{◌≡◌, ◌↔◌, ℕ, ◌+◌, ◌%◌, ◌≤◌, Bool, List, slice_get, IsSomeAnd}
 
--- a frame as it was sent: its bytes, whether it is a keyframe, its RTP timestamp (RFC 3550 5.1), and its references: the
--- places of the frames that its decoder needs
+-- a frame as it was sent: its bytes, whether it is a keyframe, its RTP timestamp (RFC 3550 5.1), and its references:
+-- the places of the frames that its decoder needs
 pub record SentFrame : Type 0 where
   pub bytes : List ℕ
   pub key : Bool

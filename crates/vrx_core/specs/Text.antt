@@ -16,8 +16,8 @@ packet_text packet = spelled (without_padding packet)
 abbrev pub text_in : List ℕ → List ℕ
 text_in octets = option_map_or packet_text (read octets) []
 
--- what a text is, of octets, each below 256, that read as a packet: it reads as the packet without its padding; where the
--- packet has no padding, it is the octets; and each of its octets is below 256
+-- what a text is, of octets, each below 256, that read as a packet: it reads as the packet without its padding; where
+-- the packet has no padding, it is the octets; and each of its octets is below 256
 abbrev pub TextsHold : Type 0
 TextsHold = (octets : List ℕ) (packet : Packet) → AreOctets octets → read octets ≡ Some packet
     → (read (text_in octets) ≡ Some (without_padding packet)) × (packet.padding ≡ 0 → text_in octets ≡ octets) × AreOctets (text_in octets)

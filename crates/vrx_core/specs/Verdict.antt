@@ -3,6 +3,7 @@ use Rattle.std.specs.Prelude.{ℕ, ◌+◌, Bool, true, false, nat_le, List, Opt
 use Rattle.std.specs.Option.{option_and_then}
 use Rattle.vrx_num.specs.Extended.{extended}
 use Rattle.vrx_rtp.specs.Reading.{read}
+use Rattle.vrx_codec.specs.Meaning.{Meaning}
 use Rattle.vrx_core.specs.Form.{aside}
 use Rattle.vrx_core.specs.Text.{text_in}
 use Rattle.vrx_core.specs.Window.{Content, Media, Packets, is_available}
@@ -36,11 +37,11 @@ abbrev pub is_too_old : Option ℕ → ℕ → Bool
 is_too_old None n = false
 is_too_old (Some newest) n = nat_le (n + 2048) newest
 
--- the table of reasons, after a history in which these are the newest number and the available packets. A datagram that
--- no row sets aside is taken, by its number and its packet's text
-abbrev pub verdict : Settings → Option ℕ → Packets → List ℕ → Result (ℕ × Content) NotTaken
-verdict settings newest packets octets = do
-  aside settings octets
+-- the table of reasons, after a history in which these are the newest number and the available packets. A datagram
+-- that no row sets aside is taken, by its number and its packet's text
+abbrev pub verdict : Settings → Meaning → Option ℕ → Packets → List ℕ → Result (ℕ × Content) NotTaken
+verdict settings codec newest packets octets = do
+  aside settings codec octets
   n ← ok_or (number_of newest octets) (Refused TooFar)
   refused TooOld (is_too_old newest n)
   refused Repeat (is_available n packets)

@@ -7,8 +7,8 @@ use Rattle.vrx_core.specs.Window as window
 use Rattle.vrx_core.specs.Text.{packet_text}
 use Rattle.vrx_core.specs.Sender.{SentPacket, Media}
 
--- octets are a text with padding behind it (RFC 3550 5.1: P = 1): at most 9,216, each below 256, they read as a packet
--- that without its padding is spelled as the text
+-- octets are a text with padding behind it (RFC 3550 5.1: P = 1): at most 9,216, each below 256, they read as a
+-- packet that without its padding is spelled as the text
 pub record IsPadded (text octets : List ℕ) : Type 0 where
   pub size : length octets ≤ 9216
   pub below : AreOctets octets

@@ -1,10 +1,10 @@
 //! The packets of the window: a plain list, in the order of their numbers, that is searched at each call.
 
-ghost use Rattle.std.specs.Prelude.{◌≡◌, ◌+◌, ◌<◌, ◌≤◌, true, false, length, insert, Some, None, MatchOption, OnOk, OnErr, IfOk, IsOk, IsTrue};
+ghost use Rattle.std.specs.Prelude.{◌≡◌, ◌<◌, ◌≤◌, true, false, length, insert, OnOk, OnErr};
 ghost use Rattle.std.specs.Ordering.{nat_cmp};
 ghost use Rattle.std.specs.FinMap.Entries.{put, is_sorted};
 ghost use Rattle.vrx_core.specs.Window.{Content, Media, is_available, in_window, placed};
-ghost use Rattle.vrx_core.specs.Held.{entry_of, entries};
+ghost use Rattle.vrx_core.specs.Held.{entries};
 
 use bytes::Bytes;
 use std::alloc::{AllocError, Global};
@@ -55,8 +55,8 @@ fn place_of(held: &[Held], number: u64) -> usize
     held.len()
 }
 
-/// Puts a packet in its place, and drops those that the window has left. Only the first takes memory: an `Err` changes
-/// nothing.
+/// Puts a packet in its place, and drops those that the window has left. Only the first takes memory: an `Err`
+/// changes nothing.
 pub(crate) fn place(held: &mut Vec<Held>, newest: u64, packet: Held) -> Result<(), AllocError>
     requires fresh { is_available packet.number (entries held.old.items) ≡ false }
     requires sorted { is_sorted nat_cmp (entries held.old.items) ≡ true }

@@ -6,13 +6,13 @@ ghost use Rattle.vrx_core.specs.HonestTaken.{HonestTakenHolds};
 
 use vrx_rtp::one_reading;
 
-/// The honest call. An honest sender sends keyframes and delta frames of any number of packets each. An honest network
-/// brings what was sent, with padding or without, with loss, repeats and in any order, each packet at most 32,768
-/// places away from the greatest one taken so far, and beside it only octets that are RTCP or are refused whatever came
-/// before. Then the frames pulled are frames that were sent, byte for byte, in the order in which they were sent, each
-/// at most once, from a keyframe on, and each after its chain and its references. Each pull is answered by the least
-/// frame that is ready, and by `NotReady` exactly where none is. It holds for all settings and every codec's meaning,
-/// of forms that the receiver takes, which so far name VP8's bits.
+/// The honest call. An honest sender sends keyframes and delta frames of any number of packets each. An honest
+/// network brings what was sent, with padding or without, with loss, repeats and in any order, each packet at most
+/// 32,768 places away from the greatest one taken so far, and beside it only octets that are RTCP or are refused
+/// whatever came before. Then the frames pulled are frames that were sent, byte for byte, in the order in which they
+/// were sent, each at most once, from a keyframe on, and each after its chain and its references. Each pull is
+/// answered by the least frame that is ready, and by `NotReady` exactly where none is. It holds for all settings and
+/// every codec's meaning.
 pub fn honest_call()
     ensures { HonestCallHolds }
 {
@@ -32,7 +32,7 @@ pub fn honest_taken()
 
 /// The runs of an honest call, after each of its events. Each run that stands is a frame that was sent: it has the
 /// numbers of the frame's packets, its timestamp, its kind and its bytes. And each frame all of whose packets are
-/// available, and which lies beyond every frame pulled, is a run that stands.
+/// available, which lies beyond every frame pulled, and of which it is evident where it begins, is a run that stands.
 pub fn honest_runs()
     ensures { HonestRunsHolds }
 {

@@ -34,7 +34,7 @@ pub enum Reason {
     BadRed,
     /// It is FEC that doesn't read (RFC 5109 7). It isn't told so far.
     BadFec,
-    /// Its payload is no part of a frame, for this fault of the codec's. It isn't told so far.
+    /// Its payload isn't empty, and is no part of a frame, for this fault of the codec's.
     BadPart {
         /// The codec's number of the fault.
         code: u8,
@@ -47,7 +47,7 @@ pub enum Reason {
     Dead,
     /// Its number is available already.
     Repeat,
-    /// Its payload is of a form that the receiver doesn't take so far: `specs/Form.antt` lists the conditions.
+    /// Its payload is empty, or a part with layers: the receiver takes neither so far.
     Form,
 }
 

@@ -1,7 +1,75 @@
-// What no clause says: that calls succeed with ample memory, and values that were worked out by hand.
+// The list types, and the engine over a codec whose payloads don't say where a frame begins: the packet before
+// decides. The values were worked out by hand.
+
+ghost use Rattle.std.specs.Prelude.{◌+◌, ◌==◌, if◌then◌else◌, nat_lt, refl, length, None, Ok, Err};
+ghost use Rattle.std.proofs.Common.{rules};
+ghost use Rattle.vrx_codec.specs.Joining.{beginning, joined};
+ghost use Rattle.vrx_codec.specs.declared.part.Start.TheVariants.{ByNeighbour};
 
 use super::*;
+use std::alloc::Global;
 use std::test::Fail;
+use vrx_codec::{Codec, Join, JoinFault, Part, PartFault, Start};
+
+// Each payload is a part, and its own body. It says a keyframe where it has two octets or more, and doesn't join
+// where it has three.
+struct Silent;
+
+impl Codec for Silent {
+    ghost meaning = { record {
+      read = λ payload. Ok (record { start = ByNeighbour; key = nat_lt 1 (length payload); layers = None; body = payload });
+      join = λ parts. joined (record {
+        step = λ state part. if length part.body == 3 then Err (record { code = 7 })
+            else Ok (record { unit = None; octets = state.octets + length part.body });
+        end = λ state. Ok state.octets;
+        adds = λ state part. part.body;
+      }) parts beginning;
+    } };
+
+    ghost joining = { record {
+      step = λ state part. if length part.body == 3 then Err (record { code = 7 })
+          else Ok (record { unit = None; octets = state.octets + length part.body });
+      end = λ state. Ok state.octets;
+      adds = λ state part. part.body;
+    } };
+
+    fn read_part(payload: &[u8]) -> Result<Part<'_>, PartFault> {
+        Ok(Part {
+            start: Start::ByNeighbour,
+            key: payload.len() > 1,
+            layers: None,
+            body: payload,
+        })
+    }
+
+    fn step(state: Join, part: &Part<'_>) -> Result<Join, JoinFault> {
+        if part.body.len() == 3 {
+            return Err(JoinFault { code: 7 });
+        }
+        Ok(Join {
+            unit: None,
+            octets: state.octets + part.body.len() as u32,
+        })
+    }
+
+    fn end(state: Join) -> Result<u32, JoinFault> {
+        Ok(state.octets)
+    }
+
+    fn append(_state: Join, part: &Part<'_>, out: &mut Vec<u8>) {
+        let Ok(()) = out.extend_from_slice(part.body) else {
+            unreachable!()
+        };
+    }
+
+    ghost within = { Prim.search rules };
+
+    ghost joins = { λ parts. refl };
+
+    ghost counted = { Prim.search rules };
+
+    ghost raises = { Prim.search rules };
+}
 
 const SETTINGS: Settings = Settings {
     media_ssrc: 10,
@@ -12,528 +80,161 @@ const SETTINGS: Settings = Settings {
     interval: 100,
 };
 
-// A frame of one packet with this wire number and timestamp: marker 1, type 96, source 10; S = 1, PID = 0; two octets of
-// the frame, of which the first has bit P.
-fn one_packet(wire: u16, ts: u16, head: u8, octet: u8) -> [u8; 15] {
+// A packet's wire number, whether it has the marker, and its payload.
+type Sent<'a> = (u16, bool, &'a [u8]);
+
+// An engine of any codec that took these packets one after the other.
+fn after<C: Codec>(alloc: Global, sent: &[Sent<'_>]) -> Result<Engine<C>, Fail> {
+    let mut engine = Engine::<C>::new(alloc, SETTINGS)?;
+    for (wire, marker, payload) in sent {
+        take::<C>(alloc, &mut engine, *wire, *marker, payload)?;
+    }
+    Ok(engine)
+}
+
+fn take<C: Codec>(
+    alloc: Global,
+    engine: &mut Engine<C>,
+    wire: u16,
+    marker: bool,
+    payload: &[u8],
+) -> Result<What, Fail> {
+    if engine.events() >= MOST_EVENTS {
+        return Err("no event is left")?;
+    }
     let [high, low] = wire.to_be_bytes();
-    let [ts_high, ts_low] = ts.to_be_bytes();
-    [
-        0x80, 0xe0, high, low, 0, 0, ts_high, ts_low, 0, 0, 0, 0x0a, 0x10, head, octet,
-    ]
+    let second = if marker { 0xe0 } else { 0x60 };
+    let header: [u8; 12] = [0x80, second, high, low, 0, 0, 0, 0, 0, 0, 0, 0x0a];
+    let mut bytes = Vec::new(alloc);
+    bytes.extend_from_slice(&header)?;
+    bytes.extend_from_slice(payload)?;
+    Ok(engine.datagram(0, &bytes)?.what)
 }
 
-// A keyframe of one packet with this wire number.
-fn keyframe(wire: u16) -> [u8; 15] {
-    one_packet(wire, 0, 0x00, 0xaa)
-}
-
-fn datagram(engine: &mut Engine, moment: u64, bytes: &[u8]) -> Result<What, Fail> {
+fn pull<C: Codec>(engine: &mut Engine<C>) -> Result<Option<Frame>, Fail> {
     if engine.events() >= MOST_EVENTS {
         return Err("no event is left")?;
     }
-    Ok(engine.datagram(moment, bytes)?.what)
-}
-
-fn pull(engine: &mut Engine, moment: u64) -> Result<Pulled, Fail> {
-    if engine.events() >= MOST_EVENTS {
-        return Err("no event is left")?;
-    }
-    Ok(engine.pull(moment)?)
-}
-
-// The first number of the frame that a pull gives.
-fn pull_first(engine: &mut Engine) -> Result<Option<u64>, Fail> {
-    match pull(engine, 0)? {
+    match engine.pull(0)? {
         Pulled::NotReady => Ok(None),
-        Pulled::Frame(frame) => Ok(Some(frame.first)),
+        Pulled::Frame(frame) => Ok(Some(frame)),
     }
 }
 
-// What becomes of keyframes with these wire numbers, one after the other.
-fn after(rt: &HostRuntime, wires: &[u16]) -> Result<(Engine, Option<What>), Fail> {
-    let mut engine = Engine::new(rt.alloc(), SETTINGS)?;
-    let mut what = None;
-    for wire in wires {
-        what = Some(datagram(&mut engine, 0, &keyframe(*wire))?);
+// A frame's first and last number, and whether it is a keyframe.
+fn short(frame: &Option<Frame>) -> Option<(u64, u64, bool)> {
+    match frame {
+        None => None,
+        Some(frame) => Some((frame.first, frame.last, frame.key)),
     }
-    Ok((engine, what))
+}
+
+// What a pull gives after these packets.
+fn pulled_after<C: Codec>(
+    alloc: Global,
+    sent: &[Sent<'_>],
+) -> Result<Option<(u64, u64, bool)>, Fail> {
+    let mut engine = after::<C>(alloc, sent)?;
+    Ok(short(&pull::<C>(&mut engine)?))
+}
+
+// What a pull gives after some packets and a pull, and then some more.
+fn pulled_later<C: Codec>(
+    alloc: Global,
+    sent: &[Sent<'_>],
+    more: &[Sent<'_>],
+) -> Result<Option<Frame>, Fail> {
+    let mut engine = after::<C>(alloc, sent)?;
+    pull::<C>(&mut engine)?;
+    for (wire, marker, payload) in more {
+        take::<C>(alloc, &mut engine, *wire, *marker, payload)?;
+    }
+    pull::<C>(&mut engine)
+}
+
+// Whole frames of one packet, under these wire numbers: keyframes of two octets.
+const ONE: Sent<'static> = (1, true, &[1, 1]);
+
+const TWO: Sent<'static> = (2, true, &[2, 2]);
+
+const THREE: Sent<'static> = (3, true, &[3, 3]);
+
+#[test]
+fn the_packet_before_decides(rt: HostRuntime) -> Result<(), Fail> {
+    let cases: [(&[Sent<'_>], Option<(u64, u64, bool)>); 12] = [
+        // nothing is known of what came before the first
+        (&[ONE], None),
+        (&[ONE, TWO], Some((65_538, 65_538, true))),
+        (&[TWO, ONE], Some((65_538, 65_538, true))),
+        // the one before has no marker, or isn't there
+        (&[(1, false, &[1, 1]), TWO], None),
+        (&[ONE, THREE], None),
+        // of two packets, of which the second says a keyframe
+        (
+            &[ONE, (2, false, &[5]), (3, true, &[6, 7])],
+            Some((65_538, 65_539, true)),
+        ),
+        // no keyframe, and none was pulled
+        (&[ONE, (2, true, &[5])], None),
+        // 2 is the lowest number of the window, which 1 has left: it stood behind 1
+        (
+            &[ONE, TWO, (2_049, true, &[9])],
+            Some((65_538, 65_538, true)),
+        ),
+        // 3 is, and stood behind 2
+        (
+            &[ONE, TWO, THREE, (2_050, true, &[9])],
+            Some((65_539, 65_539, true)),
+        ),
+        // 2 came when 1 had left
+        (&[ONE, (2_049, true, &[9]), TWO], None),
+        // 1 came too late
+        (&[TWO, (2_049, true, &[9]), ONE], None),
+        // 2 doesn't join, and 3 does
+        (
+            &[ONE, (2, true, &[1, 2, 3]), THREE],
+            Some((65_539, 65_539, true)),
+        ),
+    ];
+    for (sent, want) in cases {
+        assert_eq!(rt; pulled_after::<Silent>(rt.alloc(), sent)?, want, "{sent:?}");
+    }
+    Ok(())
 }
 
 #[test]
-fn a_keyframe_is_pulled_once(rt: HostRuntime) -> Result<(), Fail> {
-    let mut engine = Engine::new(rt.alloc(), SETTINGS)?;
-    assert_eq!(rt; pull_first(&mut engine)?, None);
-    assert_eq!(rt;
-        datagram(&mut engine, 0, &keyframe(1))?,
-        What::Media(65_537)
-    );
-    match pull(&mut engine, 1)? {
-        Pulled::NotReady => return Err("no frame")?,
-        Pulled::Frame(frame) => {
-            assert_eq!(rt; frame.first, 65_537);
-            assert_eq!(rt; frame.last, 65_537);
-            assert_eq!(rt; frame.ts, 0);
-            assert!(rt; frame.key);
-            assert_eq!(rt; frame.bytes.as_slice(), [0x00, 0xaa].as_slice());
+fn the_frame_behind_one_pulled_begins(rt: HostRuntime) -> Result<(), Fail> {
+    // no frame comes twice; then two packets, none of which says a keyframe: they follow the last frame pulled
+    let last: Sent<'_> = (4, true, &[8]);
+    let first: Sent<'_> = (3, false, &[7]);
+    let before = [ONE, TWO];
+    let none = pulled_later::<Silent>(rt.alloc(), &before, &[])?;
+    assert_eq!(rt; short(&none), None);
+    let none = pulled_later::<Silent>(rt.alloc(), &before, &[last])?;
+    assert_eq!(rt; short(&none), None);
+    let frame = pulled_later::<Silent>(rt.alloc(), &before, &[last, first])?;
+    assert_eq!(rt; short(&frame), Some((65_539, 65_540, false)));
+    match frame {
+        None => Err("no frame")?,
+        Some(frame) => {
+            assert_eq!(rt; frame.bytes.as_slice(), [7, 8].as_slice());
         }
     }
-    assert_eq!(rt; pull_first(&mut engine)?, None);
-    assert_eq!(rt;
-        datagram(&mut engine, 0, &keyframe(1))?,
-        What::Dropped(Reason::Repeat)
-    );
-    assert_eq!(rt; engine.events(), 5);
-    assert_eq!(rt; engine.now(), 1);
     Ok(())
 }
 
 #[test]
 fn a_tick_moves_the_clock_and_the_count_alone(rt: HostRuntime) -> Result<(), Fail> {
-    let mut engine = Engine::new(rt.alloc(), SETTINGS)?;
-    assert_eq!(rt;
-        datagram(&mut engine, 3, &keyframe(1))?,
-        What::Media(65_537)
-    );
-    // the clock doesn't go back
-    for (moment, now, events) in [(7, 7, 2), (5, 7, 3), (8, 8, 4)] {
-        if engine.events() >= MOST_EVENTS {
-            return Err("no event is left")?;
-        }
-        let feedback = engine.tick(moment);
-        assert!(rt; feedback.nack.is_none());
-        assert!(rt; feedback.pli.is_none());
-        assert_eq!(rt; engine.now(), now);
-        assert_eq!(rt; engine.events(), events);
+    let mut engine = Engine::<Silent>::new(rt.alloc(), SETTINGS)?;
+    if engine.events() >= MOST_EVENTS {
+        return Err("no event is left")?;
     }
-    assert_eq!(rt; pull_first(&mut engine)?, Some(65_537));
-    assert_eq!(rt; pull_first(&mut engine)?, None);
-    Ok(())
-}
-
-// A keyframe with the octet at a place changed.
-fn changed(at: usize, octet: u8) -> [u8; 15] {
-    let mut bytes = keyframe(32_770);
-    if let Some(place) = bytes.get_mut(at) {
-        *place = octet;
-    }
-    bytes
-}
-
-#[test]
-fn other_datagrams_are_refused_and_only_counted(rt: HostRuntime) -> Result<(), Fail> {
-    let mut engine = Engine::new(rt.alloc(), SETTINGS)?;
-    for (moment, at, octet, reason) in [
-        (7, 0, 0x40, Reason::NotRtp), // version 1
-        (6, 0, 0x90, Reason::BadHeader), // an extension of four octets, of which three are there
-        (5, 0, 0xa0, Reason::BadHeader), // 170 octets of padding
-        (5, 0, 0x81, Reason::BadHeader), // a contributing source
-        (4, 11, 0x0b, Reason::OtherSsrc),
-        (4, 1, 0xe1, Reason::OtherType), // type 97
-        (4, 1, 0xbf, Reason::OtherType), // type 63, and 191 as an RTCP type
-        (3, 1, 0xc0, Reason::BadRtcp), // 192, of a length of 32,770 words
-        (3, 1, 0xdf, Reason::BadRtcp), // 223
-        (3, 12, 0x90, Reason::Form), // X = 1
-    ] {
-        let count = engine.events();
-        let what = datagram(&mut engine, moment, &changed(at, octet))?;
-        assert_eq!(rt; what, What::Dropped(reason), "octet {at}");
-        assert_eq!(rt; engine.events(), count + 1);
-        assert_eq!(rt; engine.now(), 7);
-    }
-    assert_eq!(rt; engine.events(), 10);
-    // the first taken is in the cycle 1 still: no other number was taken
-    assert_eq!(rt;
-        datagram(&mut engine, 8, &keyframe(1))?,
-        What::Media(65_537)
-    );
-    assert_eq!(rt; engine.now(), 8);
-    Ok(())
-}
-
-#[test]
-fn the_first_reason_is_told(rt: HostRuntime) -> Result<(), Fail> {
-    for (places, reason) in [
-        // version 1, and another SSRC
-        ([(0, 0x40), (11, 0x0b), (11, 0x0b)], Reason::NotRtp),
-        // a contributing source past the end, another SSRC and another type
-        ([(0, 0x81), (11, 0x0b), (1, 0xe1)], Reason::BadHeader),
-        // another SSRC, another type, and X = 1
-        ([(11, 0x0b), (1, 0xe1), (12, 0x90)], Reason::OtherSsrc),
-        // another type, and X = 1
-        ([(1, 0xe1), (12, 0x90), (12, 0x90)], Reason::OtherType),
-        // RTCP of version 1
-        ([(0, 0x40), (1, 0xc8), (11, 0x0b)], Reason::BadRtcp),
-    ] {
-        let mut bytes = keyframe(1);
-        for (at, octet) in places {
-            if let Some(place) = bytes.get_mut(at) {
-                *place = octet;
-            }
-        }
-        let mut engine = Engine::new(rt.alloc(), SETTINGS)?;
-        let what = datagram(&mut engine, 0, &bytes)?;
-        assert_eq!(rt; what, What::Dropped(reason), "{places:?}");
-    }
-    Ok(())
-}
-
-#[test]
-fn rtcp_is_told_and_only_counted(rt: HostRuntime) -> Result<(), Fail> {
-    let mut engine = Engine::new(rt.alloc(), SETTINGS)?;
-    // a receiver report without blocks, of two words (RFC 3550 6.4.2)
-    let report: [u8; 8] = [0x80, 0xc9, 0, 1, 0, 0, 0, 0x0a];
-    let handled = engine.datagram(5, &report)?;
-    assert_eq!(rt; handled.what, What::Rtcp);
-    assert_eq!(rt; handled.repaired.as_slice().len(), 0);
-    assert!(rt; handled.feedback.nack.is_none());
-    assert!(rt; handled.feedback.pli.is_none());
+    let feedback = engine.tick(7);
+    assert!(rt; feedback.nack.is_none());
+    assert!(rt; feedback.pli.is_none());
+    assert_eq!(rt; engine.now(), 7);
     assert_eq!(rt; engine.events(), 1);
-    assert_eq!(rt; engine.now(), 5);
-    assert_eq!(rt;
-        datagram(&mut engine, 5, &report[..7])?,
-        What::Dropped(Reason::BadRtcp)
-    );
-    assert_eq!(rt;
-        datagram(&mut engine, 5, &report[..2])?,
-        What::Dropped(Reason::BadRtcp)
-    );
-    // one octet has no RTCP type
-    assert_eq!(rt;
-        datagram(&mut engine, 5, &report[..1])?,
-        What::Dropped(Reason::NotRtp)
-    );
-    assert_eq!(rt; engine.events(), 4);
     Ok(())
-}
-
-#[test]
-fn sources_and_an_extension_are_taken(rt: HostRuntime) -> Result<(), Fail> {
-    // one contributing source, an extension of one word, and a keyframe's payload (RFC 3550 5.1, 5.3.1)
-    let packet: [u8; 27] = [
-        0x91, 0xe0, 0, 1, 0, 0, 0, 0, 0, 0, 0, 0x0a, 0, 0, 0, 0x0c, 0xbe, 0xde, 0, 1, 1, 2, 3, 4,
-        0x10, 0x00, 0xaa,
-    ];
-    let mut engine = Engine::new(rt.alloc(), SETTINGS)?;
-    assert_eq!(rt; datagram(&mut engine, 0, &packet)?, What::Media(65_537));
-    match pull(&mut engine, 0)? {
-        Pulled::NotReady => return Err("no frame")?,
-        Pulled::Frame(frame) => {
-            assert_eq!(rt; frame.bytes.as_slice(), [0x00, 0xaa].as_slice());
-        }
-    }
-    Ok(())
-}
-
-#[test]
-fn padding_is_taken_off(rt: HostRuntime) -> Result<(), Fail> {
-    let mut engine = Engine::new(rt.alloc(), SETTINGS)?;
-    // four padding octets, of which the last says so (RFC 3550 5.1)
-    let first: [u8; 19] = [
-        0xa0, 0x60, 0, 2, 0, 0, 0, 0, 0, 0, 0, 0x0a, 0x10, 0x00, 0xaa, 0xcc, 0xcc, 0xcc, 4,
-    ];
-    assert_eq!(rt; datagram(&mut engine, 0, &first)?, What::Media(65_538));
-    // one padding octet, a contributing source and an extension of one word
-    let last: [u8; 27] = [
-        0xb1, 0xe0, 0, 3, 0, 0, 0, 0, 0, 0, 0, 0x0a, 0, 0, 0, 0x0c, 0xbe, 0xde, 0, 1, 1, 2, 3, 4,
-        0x00, 0xbb, 1,
-    ];
-    assert_eq!(rt; datagram(&mut engine, 0, &last)?, What::Media(65_539));
-    // the first again, without its padding
-    let plain: [u8; 15] = [
-        0x80, 0x60, 0, 2, 0, 0, 0, 0, 0, 0, 0, 0x0a, 0x10, 0x00, 0xaa,
-    ];
-    assert_eq!(rt;
-        datagram(&mut engine, 0, &plain)?,
-        What::Dropped(Reason::Repeat)
-    );
-    match pull(&mut engine, 0)? {
-        Pulled::NotReady => return Err("no frame")?,
-        Pulled::Frame(frame) => {
-            assert_eq!(rt; frame.first, 65_538);
-            assert_eq!(rt; frame.last, 65_539);
-            assert_eq!(rt; frame.bytes.as_slice(), [0x00, 0xaa, 0xbb].as_slice());
-        }
-    }
-    Ok(())
-}
-
-// A datagram with P = 1, which has these four octets behind its header.
-fn padded(behind: [u8; 4]) -> [u8; 16] {
-    let [first, second, third, last] = behind;
-    [
-        0xa0, 0xe0, 0, 2, 0, 0, 0, 0, 0, 0, 0, 0x0a, first, second, third, last,
-    ]
-}
-
-#[test]
-fn padding_may_leave_too_little(rt: HostRuntime) -> Result<(), Fail> {
-    for (behind, want) in [
-        // the four octets behind the header: none of them, one, and two are payload
-        ([0, 0, 0, 4], What::Dropped(Reason::Form)),
-        ([0x10, 0, 0, 3], What::Dropped(Reason::Form)),
-        ([0x10, 0, 0, 2], What::Media(65_538)),
-        // bit X of the payload's first octet
-        ([0x90, 0x80, 0, 1], What::Dropped(Reason::Form)),
-        // the last octet counts none, or more than follow the header
-        ([0x10, 0, 0, 0], What::Dropped(Reason::BadHeader)),
-        ([0x10, 0, 0, 5], What::Dropped(Reason::BadHeader)),
-    ] {
-        let mut engine = Engine::new(rt.alloc(), SETTINGS)?;
-        let what = datagram(&mut engine, 0, &padded(behind))?;
-        assert_eq!(rt; what, want, "{behind:?}");
-    }
-    Ok(())
-}
-
-#[test]
-fn a_datagram_has_at_most_9216_octets_and_two_of_payload(rt: HostRuntime) -> Result<(), Fail> {
-    for (octets, want) in [
-        (0, What::Dropped(Reason::NotRtp)),
-        (11, What::Dropped(Reason::NotRtp)),
-        (12, What::Dropped(Reason::Form)),
-        (13, What::Dropped(Reason::Form)),
-        (14, What::Media(65_537)),
-        (9_216, What::Media(65_537)),
-        (9_217, What::Dropped(Reason::TooLong)),
-    ] {
-        let mut bytes = Vec::new(rt.alloc());
-        bytes.extend_from_slice(&keyframe(1))?;
-        bytes.resize(octets, 0xbb)?;
-        let mut engine = Engine::new(rt.alloc(), SETTINGS)?;
-        assert_eq!(rt; datagram(&mut engine, 0, &bytes)?, want, "{octets} octets");
-    }
-    Ok(())
-}
-
-#[test]
-fn a_number_is_the_nearest_and_lies_in_the_window(rt: HostRuntime) -> Result<(), Fail> {
-    let cases: [(&[u16], What); 9] = [
-        (&[0], What::Media(65_536)),
-        (&[65_534, 65_535, 0], What::Media(131_072)),
-        (&[0, 65_535], What::Media(65_535)),
-        (&[1, 32_768], What::Media(98_304)),
-        // just half of the space ahead, and less than half behind
-        (&[1, 32_769], What::Dropped(Reason::TooFar)),
-        (&[1, 32_770], What::Dropped(Reason::TooOld)),
-        // the window from 65,538 to 67,585 has 2,048 numbers
-        (&[1, 2_049, 1], What::Dropped(Reason::TooOld)),
-        (&[1, 2_049, 2], What::Media(65_538)),
-        (&[2, 2_049, 2], What::Dropped(Reason::Repeat)),
-    ];
-    for (wires, want) in cases {
-        assert_eq!(rt; after(&rt, wires)?.1, Some(want), "after {wires:?}");
-    }
-    Ok(())
-}
-
-#[test]
-fn frames_are_pulled_in_order(rt: HostRuntime) -> Result<(), Fail> {
-    let (mut engine, _) = after(&rt, &[65_534, 0, 65_535])?;
-    for want in [Some(131_070), Some(131_071), Some(131_072), None] {
-        assert_eq!(rt; pull_first(&mut engine)?, want);
-    }
-    // too late for the decoder
-    assert_eq!(rt;
-        datagram(&mut engine, 0, &keyframe(65_533))?,
-        What::Media(131_069)
-    );
-    assert_eq!(rt; pull_first(&mut engine)?, None);
-    // 65,537 has left the window
-    let (mut engine, _) = after(&rt, &[1, 2_049, 2])?;
-    for want in [Some(65_538), Some(67_585), None] {
-        assert_eq!(rt; pull_first(&mut engine)?, want);
-    }
-    Ok(())
-}
-
-#[test]
-fn parts_in_any_order_join_to_one_frame(rt: HostRuntime) -> Result<(), Fail> {
-    let mut engine = Engine::new(rt.alloc(), SETTINGS)?;
-    // S = 1 and the frame's first octets, a part between, and the last part with the marker
-    let first: [u8; 15] = [
-        0x80, 0x60, 0, 1, 0, 0, 0, 0, 0, 0, 0, 0x0a, 0x10, 0x00, 0xaa,
-    ];
-    let second: [u8; 14] = [0x80, 0x60, 0, 2, 0, 0, 0, 0, 0, 0, 0, 0x0a, 0x00, 0xbb];
-    let third: [u8; 14] = [0x80, 0xe0, 0, 3, 0, 0, 0, 0, 0, 0, 0, 0x0a, 0x00, 0xcc];
-    assert_eq!(rt; datagram(&mut engine, 0, &third)?, What::Media(65_539));
-    assert_eq!(rt; datagram(&mut engine, 0, &first)?, What::Media(65_537));
-    assert_eq!(rt; pull_first(&mut engine)?, None);
-    assert_eq!(rt; datagram(&mut engine, 0, &second)?, What::Media(65_538));
-    match pull(&mut engine, 0)? {
-        Pulled::NotReady => return Err("no frame")?,
-        Pulled::Frame(frame) => {
-            assert_eq!(rt; frame.first, 65_537);
-            assert_eq!(rt; frame.last, 65_539);
-            assert_eq!(rt; frame.ts, 0);
-            assert!(rt; frame.key);
-            assert_eq!(rt; frame.bytes.as_slice(), [0x00, 0xaa, 0xbb, 0xcc].as_slice());
-        }
-    }
-    assert_eq!(rt; pull_first(&mut engine)?, None);
-    Ok(())
-}
-
-// The first number of the frame that a pull gives, and whether it is a keyframe.
-fn pull_key(engine: &mut Engine) -> Result<Option<(u64, bool)>, Fail> {
-    match pull(engine, 0)? {
-        Pulled::NotReady => Ok(None),
-        Pulled::Frame(frame) => Ok(Some((frame.first, frame.key))),
-    }
-}
-
-#[test]
-fn a_delta_frame_follows_the_frame_before(rt: HostRuntime) -> Result<(), Fail> {
-    let mut engine = Engine::new(rt.alloc(), SETTINGS)?;
-    for (bytes, number) in [
-        (keyframe(65_534), 131_070),
-        (one_packet(65_535, 3_000, 0x01, 0xbb), 131_071),
-        (one_packet(1, 9_000, 0x01, 0xdd), 131_073),
-    ] {
-        assert_eq!(rt; datagram(&mut engine, 0, &bytes)?, What::Media(number));
-    }
-    for want in [Some((131_070, true)), Some((131_071, false)), None] {
-        assert_eq!(rt; pull_key(&mut engine)?, want);
-    }
-    assert_eq!(rt;
-        datagram(&mut engine, 0, &one_packet(0, 6_000, 0x01, 0xcc))?,
-        What::Media(131_072)
-    );
-    match pull(&mut engine, 0)? {
-        Pulled::NotReady => return Err("no frame")?,
-        Pulled::Frame(frame) => {
-            assert_eq!(rt; frame.first, 131_072);
-            assert_eq!(rt; frame.last, 131_072);
-            assert_eq!(rt; frame.ts, 6_000);
-            assert!(rt; !frame.key);
-            assert_eq!(rt; frame.bytes.as_slice(), [0x01, 0xcc].as_slice());
-        }
-    }
-    for want in [Some((131_073, false)), None] {
-        assert_eq!(rt; pull_key(&mut engine)?, want);
-    }
-    Ok(())
-}
-
-#[test]
-fn a_type_is_bad_at_its_edges(rt: HostRuntime) {
-    for (media_type, want) in [
-        (0, None),
-        (63, None),
-        (64, Some(NewFault::BadType)),
-        (95, Some(NewFault::BadType)),
-        (96, None),
-        (127, None),
-        (128, Some(NewFault::BadType)),
-        (255, Some(NewFault::BadType)),
-    ] {
-        let fault = Engine::new(
-            rt.alloc(),
-            Settings {
-                media_type,
-                ..SETTINGS
-            },
-        )
-        .err();
-        assert_eq!(rt; fault, want, "type {media_type}");
-    }
-}
-
-// Settings with all that can be given: no two types and no two SSRCs are equal.
-fn with_all(red: Red, rtx: Rtx) -> Settings {
-    Settings {
-        red: Some(red),
-        rtx: Some(rtx),
-        ..SETTINGS
-    }
-}
-
-const RED: Red = Red {
-    red_type: 97,
-    fec_type: Some(98),
-};
-
-const RTX: Rtx = Rtx {
-    ssrc: 12,
-    media_rtx_type: 99,
-    red_rtx_type: Some(100),
-};
-
-fn red(red_type: u8, fec_type: u8) -> Red {
-    Red {
-        red_type,
-        fec_type: Some(fec_type),
-    }
-}
-
-fn rtx(ssrc: u32, media_rtx_type: u8, red_rtx_type: u8) -> Rtx {
-    Rtx {
-        ssrc,
-        media_rtx_type,
-        red_rtx_type: Some(red_rtx_type),
-    }
-}
-
-#[test]
-fn each_type_and_each_ssrc_is_tested(rt: HostRuntime) {
-    for (red, rtx, want) in [
-        (RED, RTX, NewFault::Later),
-        (red(64, 98), RTX, NewFault::BadType),
-        (red(97, 95), RTX, NewFault::BadType),
-        (RED, rtx(12, 128, 100), NewFault::BadType),
-        (RED, rtx(12, 99, 255), NewFault::BadType),
-        // equal to the media type, to one another, and at either end
-        (red(96, 98), RTX, NewFault::SameType),
-        (red(97, 97), RTX, NewFault::SameType),
-        (red(97, 99), RTX, NewFault::SameType),
-        (RED, rtx(12, 100, 100), NewFault::SameType),
-        (RED, rtx(12, 99, 96), NewFault::SameType),
-        (RED, rtx(10, 99, 100), NewFault::SameSsrc),
-        (RED, rtx(11, 99, 100), NewFault::SameSsrc),
-        // the first fault is told
-        (red(64, 64), rtx(10, 99, 100), NewFault::BadType),
-        (red(97, 97), rtx(10, 99, 100), NewFault::SameType),
-    ] {
-        let fault = Engine::new(rt.alloc(), with_all(red, rtx)).err();
-        assert_eq!(rt; fault, Some(want), "{red:?} and {rtx:?}");
-    }
-}
-
-#[test]
-fn other_settings_are_tested_in_order(rt: HostRuntime) {
-    let no_red = Rtx {
-        red_rtx_type: None,
-        ..RTX
-    };
-    for (red, rtx, from_ssrc, interval, want) in [
-        (None, None, 11, 100, None),
-        (None, None, 10, 100, Some(NewFault::SameSsrc)),
-        (None, Some(RTX), 10, 0, Some(NewFault::SameSsrc)),
-        (None, Some(RTX), 11, 0, Some(NewFault::RedMissing)),
-        (None, Some(no_red), 11, 0, Some(NewFault::BadInterval)),
-        (None, Some(no_red), 11, 1, Some(NewFault::Later)),
-        (Some(RED), None, 11, 1, Some(NewFault::Later)),
-        (
-            Some(RED),
-            Some(RTX),
-            11,
-            60_001,
-            Some(NewFault::BadInterval),
-        ),
-        (None, None, 11, 0, Some(NewFault::BadInterval)),
-        (None, None, 11, 1, None),
-        (None, None, 11, 60_000, None),
-        (None, None, 11, 60_001, Some(NewFault::BadInterval)),
-    ] {
-        let settings = Settings {
-            red,
-            rtx,
-            from_ssrc,
-            interval,
-            ..SETTINGS
-        };
-        let fault = Engine::new(rt.alloc(), settings).err();
-        assert_eq!(rt; fault, want, "{settings:?}");
-    }
 }
 
 #[test]
@@ -557,7 +258,7 @@ fn is_send<T: Send>() {}
 
 #[test]
 fn an_engine_may_go_to_another_thread() {
-    is_send::<Engine>();
+    is_send::<Engine<Silent>>();
     is_send::<Event>();
     is_send::<Frame>();
 }

@@ -4,6 +4,7 @@ ghost use Rattle.std.specs.Prelude.{◌≡◌, false, Some, Ok, IfOk};
 ghost use Rattle.vrx_rtp.specs.Packet.{IsPacket, Fits};
 ghost use Rattle.vrx_rtp.specs.Reading.{reading, read as packet_read};
 ghost use Rattle.vrx_rtp.specs.View.{view};
+ghost use Rattle.vrx_codec.specs.Meaning.{Meaning};
 ghost use Rattle.vrx_core.specs.Form.{is_aside};
 ghost use Rattle.vrx_core.specs.Text.{without_padding, packet_text};
 ghost use Rattle.vrx_core.specs.declared.settings.Settings.{Settings};
@@ -31,8 +32,8 @@ pub(crate) fn text_of(alloc: Global, octets: &[u8], packet: &RtpView<'_>) -> Res
     requires reads { packet_read octets.now ≡ Some (view packet.now) }
     requires grammar { IsPacket octets.now (view packet.now) }
     ensures text { IfOk result (λ text. text ≡ packet_text (view packet.now)) }
-    ensures taken { (settings : Settings) → is_aside settings octets.now ≡ false →
-        IfOk result (λ text. is_aside settings text ≡ false) }
+    ensures taken { (settings : Settings) (codec : Meaning) → is_aside settings codec octets.now ≡ false →
+        IfOk result (λ text. is_aside settings codec text ≡ false) }
 {
     if packet.padding == 0 {
         Ok(Bytes::copy_from_slice(alloc, octets)?)

@@ -1,6 +1,6 @@
 //! What a datagram is, by the table of reasons.
 
-ghost use Rattle.std.specs.Prelude.{◌≡◌, ◌+◌, ◌*◌, ◌<◌, ◌≤◌, ◌^◌, true, false, Some, IfOk, MatchOption};
+ghost use Rattle.std.specs.Prelude.{◌≡◌, ◌+◌, ◌<◌, ◌≤◌, ◌^◌, true, false, Some, IfOk, MatchOption};
 ghost use Rattle.vrx_rtp.specs.Packet.{IsPacket};
 ghost use Rattle.vrx_rtp.specs.Reading.{read as packet_read};
 ghost use Rattle.vrx_rtp.specs.View.{view};
@@ -14,6 +14,7 @@ use crate::form::{NotTaken, sorted};
 use crate::held::{Held, WINDOW, holds};
 use crate::reply::Reason;
 use crate::settings::Settings;
+use vrx_codec::Codec;
 use vrx_num::Extender;
 use vrx_rtp::RtpView;
 
@@ -38,14 +39,14 @@ pub(crate) struct Taken<'a> {
 }
 
 /// What a datagram is taken as, or what becomes of it. It takes no memory.
-pub(crate) fn verdict<'a>(
+pub(crate) fn verdict<'a, C: Codec>(
     settings: &Settings,
     extender: &Extender,
     held: &[Held],
     octets: &'a [u8],
 ) -> Result<Taken<'a>, NotTaken>
-    ensures value { verdict_of settings.now extender.now (entries held.now) octets.now ≡ with_text result }
-    ensures form { IfOk result (λ _. is_aside settings.now octets.now ≡ false) }
+    ensures value { verdict_of settings.now C.meaning extender.now (entries held.now) octets.now ≡ with_text result }
+    ensures form { IfOk result (λ _. is_aside settings.now C.meaning octets.now ≡ false) }
     ensures reads { IfOk result (λ taken. packet_read octets.now ≡ Some (view taken.packet)) }
     ensures grammar { IfOk result (λ taken. IsPacket octets.now (view taken.packet)) }
     ensures fresh { IfOk result (λ taken. is_available taken.number (entries held.now) ≡ false) }
@@ -54,9 +55,9 @@ pub(crate) fn verdict<'a>(
         MatchOption extender.now ((65536 ≤ taken.number) × (taken.number < 131072)) (λ newest.
         (newest < taken.number + 32768) × (taken.number < newest + 32768))) }
 {
-    let packet = match sorted(settings, octets) {
+    let packet = match sorted::<C>(settings, octets) {
         Err(left) => return Err(left),
-        Ok(packet) => packet,
+        Ok(seen) => seen.packet,
     };
     let Some(number) = extender.extend(packet.seq) else {
         return Err(NotTaken::Refused(Reason::TooFar));

@@ -6,4 +6,6 @@ pub mod LooksLemmas
 pub mod HeadLemmas
 pub mod SettingsLemmas
 pub mod HonestLinesLemmas
+pub mod EngineRows
+pub mod HonestRows
 pub mod Rows

@@ -3,7 +3,7 @@ use Rattle.std.proofs.Common.{◌≡◌, ℕ, ◌<◌, ◌≤◌, cond, true, fa
 use Rattle.std.specs.Prelude.{Option, Some, None, Ok, Err, MatchOption}
 use Rattle.std.proofs.lemmas.Bool.{lt-ltb, le-ltb}
 use Rattle.std.proofs.lemmas.Option.{none-some}
-use Rattle.vrx_io.specs.Sink.{extended, TakesPart}
+use Rattle.vrx_io.specs.Sink.{extended}
 use Rattle.vrx_vp8.specs.Descriptor.{vp8}
 use Rattle.vrx_core.specs.Machine.{reply}
 use Rattle.vrx_core.specs.StandsFor.{Parts, StandsFor}
@@ -24,7 +24,7 @@ use Rattle.vrx_program.specs.HasRead.{HasRead}
 use Rattle.vrx_program.specs.Outcome.{Outcome, text_of_outcome, status_of, error_text, refused}
 use Rattle.vrx_program.specs.Replay.{settings_of, accepted, most_events, before_tick, first_tick, first_refused, call_with, call_from, call_in, outcome_of, replayed}
 use Rattle.vrx_program.specs.Ends.{TookFront, EndsOver, EndsBadly, EndsAmid}
-use Rattle.vrx_program.specs.Plays.{history_after, IsAnswered, Happens, Plays}
+use Rattle.vrx_program.specs.Plays.{history_after, Happens, Plays}
 use Rattle.vrx_program.specs.declared.status.Status.{Status}
 use Rattle.vrx_program.specs.declared.status.Status.TheVariants as statuses
 use Rattle.vrx_program.proofs.HeadLemmas.{RefusesHeads}
@@ -260,30 +260,3 @@ module _ (lines_join : LinesJoin) (readings_join : ReadingsJoin) (source sink : 
   plays-happens engine next old new mid after taken last k (Datagram moment octets) (Some status) p passes says same happens = plays-amid engine old new mid after taken last k (Datagram moment octets) status p passes says refl happens
   plays-happens engine next old new mid after taken last k (Pull moment) None p passes says same happens = plays-on engine next old new mid after taken last k (Pull moment) p passes says refl same happens.0 happens.1
   plays-happens engine next old new mid after taken last k (Pull moment) (Some status) p passes says same happens = plays-amid engine old new mid after taken last k (Pull moment) status p passes says refl happens
-
--- ---- one event
-
-module _ (old new : Parts) (h : List Event) (k : ℕ) (before after : Option (List ℕ)) where
-  -- the text was taken whole
-  pub happens-on : (event : Event) (text : List ℕ) → IsAnswered old new h k event (Some text) → after ≡ extended before text → Happens old new h k event None before after
-  happens-on (Tick moment) text answered wrote = absurd (none-some _ (sym answered))
-  happens-on (Datagram moment octets) text answered wrote = (answered.0, wrote ∙ ap (extended before) answered.1)
-  happens-on (Pull moment) text answered wrote = (answered.0, wrote ∙ ap (extended before) answered.1)
-
-  -- a write failed
-  pub happens-unwritten : (event : Event) (text : List ℕ) → IsAnswered old new h k event (Some text) → TakesPart before after text → Happens old new h k event (Some statuses.WriteFault) before after
-  happens-unwritten (Tick moment) text answered part = absurd (none-some _ (sym answered))
-  happens-unwritten (Datagram moment octets) text answered part = subst (TakesPart before after) answered.1 part
-  happens-unwritten (Pull moment) text answered part = subst (TakesPart before after) answered.1 part
-
-  -- a tick
-  pub happens-later : (event : Event) (status : Status) → IsAnswered old new h k event None → EndsBadly status (error_line k errors.Later) before after → Happens old new h k event (Some status) before after
-  happens-later (Tick moment) status answered ends = ends
-  happens-later (Datagram moment octets) status answered ends = absurd answered
-  happens-later (Pull moment) status answered ends = absurd answered
-
-  -- want of memory
-  pub happens-memory : (event : Event) → after ≡ before → Happens old new h k event (Some statuses.NoMemory) before after
-  happens-memory (Tick moment) same = (0, same ∙ sym (extended-none before))
-  happens-memory (Datagram moment octets) same = (0, same ∙ sym (extended-none before))
-  happens-memory (Pull moment) same = (0, same ∙ sym (extended-none before))

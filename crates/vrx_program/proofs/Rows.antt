@@ -120,31 +120,28 @@ are_octets octets h = All-from_recursion (λ octet. octet < 256) octets (each oc
 first_is : IsPart settings vp8 sender 0 keyframe 3 0 0 first_part
 first_is = record {
   sent = refl;
-  media = record { size = omega arith; below = are_octets first_text refl; reads = refl; no_padding = refl; number = refl; type = refl; source = refl; payload = λ e. cc; part_reads = refl; no_rtcp = λ r. absurd (omega (arith, r.at_most)); long = omega arith; no_extension = refl };
+  media = record { size = omega arith; below = are_octets first_text refl; reads = refl; no_padding = refl; number = refl; type = refl; source = refl; payload = λ e. cc; part_reads = refl; no_rtcp = λ r. absurd (omega (arith, r.at_most)); layers = refl };
   timestamp = refl;
   marker = (λ e. cc, λ e. absurd (omega arith));
   start = refl;
-  layers = refl;
 }
 
 second_is : IsPart settings vp8 sender 0 keyframe 3 1 1 second_part
 second_is = record {
   sent = refl;
-  media = record { size = omega arith; below = are_octets second_text refl; reads = refl; no_padding = refl; number = refl; type = refl; source = refl; payload = λ e. cc; part_reads = refl; no_rtcp = λ r. absurd (omega (arith, r.at_most)); long = omega arith; no_extension = refl };
+  media = record { size = omega arith; below = are_octets second_text refl; reads = refl; no_padding = refl; number = refl; type = refl; source = refl; payload = λ e. cc; part_reads = refl; no_rtcp = λ r. absurd (omega (arith, r.at_most)); layers = refl };
   timestamp = refl;
   marker = (λ e. cc, λ e. absurd (omega arith));
-  start = refl;
-  layers = refl;
+  start = λ same. omega arith;
 }
 
 third_is : IsPart settings vp8 sender 0 keyframe 3 2 2 third_part
 third_is = record {
   sent = refl;
-  media = record { size = omega arith; below = are_octets third_text refl; reads = refl; no_padding = refl; number = refl; type = refl; source = refl; payload = λ e. cc; part_reads = refl; no_rtcp = λ r. absurd (omega (arith, r.at_most)); long = omega arith; no_extension = refl };
+  media = record { size = omega arith; below = are_octets third_text refl; reads = refl; no_padding = refl; number = refl; type = refl; source = refl; payload = λ e. cc; part_reads = refl; no_rtcp = λ r. absurd (omega (arith, r.at_most)); layers = refl };
   timestamp = refl;
   marker = (λ e. refl, λ e. refl);
-  start = refl;
-  layers = refl;
+  start = λ same. omega arith;
 }
 
 -- the frame travels in them

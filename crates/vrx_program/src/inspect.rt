@@ -17,6 +17,7 @@ use vrx_num::NoMemory;
 use vrx_text::{
     ErrorReason, HeadFault, Line, LineFault, Lines, inspect_text, lines_join, read_settings,
 };
+use vrx_vp8::Vp8;
 
 /// Looks at the event of a line, and writes as one piece what it is, if it is a datagram. A status ends the run.
 fn look<K: Sink>(alloc: Global, k: u32, event: &Event, sink: &mut K) -> Option<Status>
@@ -101,7 +102,7 @@ fn fault_of(alloc: Global, settings: Settings) -> Option<NewFault>
     ensures { MatchOption result (fault_of_settings settings ≡ None) (λ fault.
         (fault ≡ NewFault.NoMemory) ⊎ (fault_of_settings settings ≡ Some fault)) }
 {
-    Engine::new(alloc, settings).err()
+    Engine::<Vp8>::new(alloc, settings).err()
 }
 
 /// Whether settings with this fault are right: their only fault is that a replay doesn't take them so far.

@@ -22,11 +22,12 @@ use vrx_text::{
     CodecName, ErrorReason, HeadFault, Line, LineFault, Lines, lines_join, read_settings,
     text_of_handled, text_of_pulled,
 };
+use vrx_vp8::Vp8;
 
 /// The text of the reply to an event: none to a tick, which isn't taken so far.
 fn answer(
     alloc: Global,
-    engine: &mut Engine,
+    engine: &mut Engine<Vp8>,
     k: u32,
     event: &Event,
 ) -> Result<Option<Vec<u8>>, NoMemory>
@@ -52,7 +53,7 @@ fn answer(
 /// Takes the event of a line, and writes the text of its reply as one piece. A status ends the run.
 fn happen<K: Sink>(
     alloc: Global,
-    engine: &mut Engine,
+    engine: &mut Engine<Vp8>,
     k: u32,
     event: &Event,
     sink: &mut K,
@@ -78,7 +79,7 @@ fn happen<K: Sink>(
 /// Takes the next event of a capture and writes the text of its reply. A status ends the run.
 fn step<S: Source, K: Sink>(
     alloc: Global,
-    engine: &mut Engine,
+    engine: &mut Engine<Vp8>,
     lines: &mut Lines,
     source: &mut S,
     sink: &mut K,
@@ -114,7 +115,7 @@ fn step<S: Source, K: Sink>(
 /// Replays the events of a capture, behind its settings line.
 fn play<S: Source, K: Sink>(
     alloc: Global,
-    mut engine: Engine,
+    mut engine: Engine<Vp8>,
     mut lines: Lines,
     source: &mut S,
     sink: &mut K,
@@ -162,7 +163,7 @@ fn hindered_by(fault: NewFault) -> Unopened
 }
 
 /// The engine that the settings line of a capture asks for, where the line isn't refused. H.264 isn't taken so far.
-fn opened(alloc: Global, line: &[u8]) -> Result<Engine, Unopened>
+fn opened(alloc: Global, line: &[u8]) -> Result<Engine<Vp8>, Unopened>
     requires { length line.now ≤ longest_line }
     ensures settings { IfOk result (λ engine. settings_of line.now ≡ Ok engine.settings) }
     ensures stands { IfOk result (λ engine. StandsFor vp8 engine []) }
@@ -171,7 +172,7 @@ fn opened(alloc: Global, line: &[u8]) -> Result<Engine, Unopened>
     let Some((codec, settings)) = read_settings(line) else {
         return Err(Unopened::Refused(ErrorReason::Settings));
     };
-    match Engine::new(alloc, settings) {
+    match Engine::<Vp8>::new(alloc, settings) {
         Ok(engine) => match codec {
             CodecName::Vp8 => Ok(engine),
             CodecName::H264 => Err(Unopened::Refused(ErrorReason::Later)),

@@ -1,6 +1,7 @@
 //! Whole runs in memory: captures and their transcripts, worked by hand.
 
 mod datagrams;
+mod engine;
 mod faults;
 mod inspections;
 mod lines;
@@ -122,10 +123,10 @@ const CALLS: [(&str, &str); 6] = [
         "\n# a comment\nd 0 80E00001000000000000000A1000AA\n\np 1\n",
         "4 media 65537\n6 frame 65537 65537 key 0 00aa\n",
     ),
-    // Bit X, a packet at half the number space, and one below the window.
+    // X and I, and no PictureID behind them; a packet at half the number space, and one below the window.
     (
-        "d 0 80e00001000000000000000a9000aa\nd 0 80e00001000000000000000a1000aa\nd 0 80e08001000000000000000a1000aa\nd 0 80e00801000000000000000a1000aa\nd 0 80e00001000000000000000a1000aa\n",
-        "2 drop Form\n3 media 65537\n4 drop TooFar\n5 media 67585\n6 drop TooOld\n",
+        "d 0 80e00001000000000000000a9080\nd 0 80e00001000000000000000a1000aa\nd 0 80e08001000000000000000a1000aa\nd 0 80e00801000000000000000a1000aa\nd 0 80e00001000000000000000a1000aa\n",
+        "2 drop BadPart 1\n3 media 65537\n4 drop TooFar\n5 media 67585\n6 drop TooOld\n",
     ),
 ];
 
@@ -143,7 +144,7 @@ fn calls_are_replayed(rt: HostRuntime) -> Result<(), Fail> {
 
 /// Keyframes in several packets, whole and spoilt: the name of the case, the lines behind the settings, and the
 /// transcript. The number of the first packet taken is its wire number and 65,536.
-const RUNS: [(&str, &str, &str); 30] = [
+const RUNS: [(&str, &str, &str); 31] = [
     // Each number is taken; the pull finds all of 65537 to 65539, and joins what lies behind the descriptors.
     (
         "parts in the order 3, 1, 2",
@@ -222,6 +223,13 @@ const RUNS: [(&str, &str, &str); 30] = [
         "d 0 80600001000000000000000a7800aa\nd 0 80e00002000000000000000a68bb\np 0\n",
         "2 media 65537\n3 media 65538\n4 frame 65537 65538 key 0 00aabb\n",
     ),
+    // 9080 01, 8080 01 and 8000: X, with I and a PictureID of 7 bits, or with no flag. Three octets are the descriptor of
+    // the first and of the second, and two that of the third. S = 1 in the first alone.
+    (
+        "descriptors of several octets",
+        "d 0 80600001000000000000000a90800100aa\nd 0 80600002000000000000000a808001bb\nd 0 80e00003000000000000000a8000cc\np 0\n",
+        "2 media 65537\n3 media 65538\n4 media 65539\n5 frame 65537 65539 key 0 00aabbcc\n",
+    ),
     // S = 1 and PID = 0: 2 is a start, whatever is behind. 1 to 2 and 1 to 3 have two starts, and 2 to 3 two markers.
     // 2 alone is a run, but a delta frame, and nothing was pulled.
     (
@@ -235,11 +243,12 @@ const RUNS: [(&str, &str, &str); 30] = [
         "d 0 80600001000000000000000a1000aa\nd 0 80e00002000000000000000a1001bb\nd 0 80e00002000000000000000a00bb\np 0\n",
         "2 media 65537\n3 media 65538\n4 drop Repeat\n5 notready\n",
     ),
-    // Bit X: the refused one left nothing under its number, so the part that follows isn't a repeat.
+    // X and I, and no PictureID behind them: the refused one left nothing under its number, so the part that follows isn't
+    // a repeat.
     (
         "a part behind a refused one of its number",
-        "d 0 80600001000000000000000a1000aa\nd 0 80e00002000000000000000a8000bb\nd 0 80e00002000000000000000a00bb\np 0\n",
-        "2 media 65537\n3 drop Form\n4 media 65538\n5 frame 65537 65538 key 0 00aabb\n",
+        "d 0 80600001000000000000000a1000aa\nd 0 80e00002000000000000000a8080\nd 0 80e00002000000000000000a00bb\np 0\n",
+        "2 media 65537\n3 drop BadPart 1\n4 media 65538\n5 frame 65537 65538 key 0 00aabb\n",
     ),
     // Beside 67584 the window begins at 65537: all three are in it.
     (
@@ -317,7 +326,7 @@ const RUNS: [(&str, &str, &str); 30] = [
     (
         "a payload of one octet",
         "d 0 80600001000000000000000a00\nd 0 80e00001000000000000000a10\np 0\n",
-        "2 drop Form\n3 drop Form\n4 notready\n",
+        "2 drop BadPart 2\n3 drop BadPart 2\n4 notready\n",
     ),
     // 32770 on the wire is half of the space away from 65538, and 32769 one less, 98305; its window has neither part.
     (
@@ -341,7 +350,7 @@ fn runs_are_handed_out(rt: HostRuntime) -> Result<(), Fail> {
 
 /// Calls with delta frames: the name of the case, the lines behind the settings, and the transcript. In the comments,
 /// 1 is 65537, and so on.
-const DELTAS: [(&str, &str, &str); 26] = [
+const DELTAS: [(&str, &str, &str); 27] = [
     // Each follows the one before it; 131072 is missing at the third pull, and 131073 doesn't follow 131071.
     (
         "a call round the wrap",
@@ -486,10 +495,17 @@ const DELTAS: [(&str, &str, &str); 26] = [
         "d 0 80e00001000000000000000a1000aa\nd 0 80e00002000000000000000a1001bb\nd 0 80e00002000000000000000a1000ff\np 0\nd 0 80e00001000000000000000a1001ff\np 0\nd 0 80e00002000000000000000a1001bb\np 0\n",
         "2 media 65537\n3 media 65538\n4 drop Repeat\n5 frame 65537 65537 key 0 00aa\n6 drop Repeat\n7 frame 65538 65538 delta 0 01bb\n8 drop Repeat\n9 notready\n",
     ),
-    // Bit X of the second is 1: it is refused, and leaves a gap; a packet of its number is taken later.
+    // X and I, and a PictureID of 7 bits, 2: it is taken, and the octet behind the descriptor is 01.
     (
-        "a delta frame with an extension",
-        "d 0 80e00001000000000000000a1000aa\np 0\nd 0 80e00002000000000000000a908001bb\nd 0 80e00003000000000000000a1001cc\np 0\nd 0 80e00002000000000000000a1001bb\np 0\np 0\n",
+        "a delta frame with a PictureID of 7 bits",
+        "d 0 80e00001000000000000000a1000aa\np 0\nd 0 80e00002000000000000000a90800201bb\nd 0 80e00003000000000000000a1001cc\np 0\nd 0 80e00002000000000000000a1001bb\np 0\np 0\n",
+        "2 media 65537\n3 frame 65537 65537 key 0 00aa\n4 media 65538\n5 media 65539\n6 frame 65538 65538 delta 0 01bb\n7 drop Repeat\n8 frame 65539 65539 delta 0 01cc\n9 notready\n",
+    ),
+    // X, I, L and T, PictureID 2 of 15 bits, TL0PICIDX 5 and TID 0: it is refused, and leaves a gap; a packet of its
+    // number is taken later.
+    (
+        "a delta frame with layers",
+        "d 0 80e00001000000000000000a1000aa\np 0\nd 0 80e00002000000000000000a90e08002050001bb\nd 0 80e00003000000000000000a1001cc\np 0\nd 0 80e00002000000000000000a1001bb\np 0\np 0\n",
         "2 media 65537\n3 frame 65537 65537 key 0 00aa\n4 drop Form\n5 media 65539\n6 notready\n7 media 65538\n8 frame 65538 65538 delta 0 01bb\n9 frame 65539 65539 delta 0 01cc\n",
     ),
     // A jump of 32,767: 98304 stands, doesn't follow, and a keyframe behind it does go out.

@@ -1,6 +1,5 @@
 -- Lemmas on the octets that a buffer holds from a place on.
 use Rattle.std.proofs.Common.{◌≡◌, ◌⊎◌, ℕ, true, false, not, ◌==◌, ◌+◌, ◌-◌, ◌≤◌, List, [], ◌++◌, length, take, drop, refl, sym, ap, ◌∙◌, inl, inr, append_assoc, arith, Option}
-use Rattle.std.proofs.lemmas.Bool.{eqb-true}
 use Rattle.std.proofs.lemmas.List.{drop-take, drop-drop, drop_all, length-take-le, length-drop, take-append-drop, take-take, append-nil}
 use Rattle.std.proofs.lemmas.List.Folds.{prefix_len-append}
 use Rattle.vrx_text.specs.Line.{feed_place}
@@ -50,16 +49,6 @@ reads_none old new before after same left = record {
   octets = rw (same, append-nil old.kept) refl;
   end = λ ended. inl (rw same at ended);
   stays = λ ended. (rw same ended, refl);
-}
-
--- a read
-pub reads_some : (old new : Holding) (before after : Option (List ℕ)) (read : List ℕ) (n : ℕ) → before ≡ ahead read after → new.kept ≡ old.kept ++ read → old.ended ≡ false → new.ended ≡ (n == 0) → (n ≡ 0 → IsSpent after) → ReadsOn old new before after
-reads_some old new before after read n source octets going ended spent = record {
-  read = read;
-  source = source;
-  octets = octets;
-  end = λ was. inr (spent (eqb-true n 0 (sym ended ∙ was)));
-  stays = λ was. cc;
 }
 
 -- one read after another

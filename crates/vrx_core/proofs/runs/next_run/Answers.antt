@@ -1,18 +1,15 @@
-use Rattle.std.proofs.Common.{◌≡◌, ◌∙◌, ap, sym, subst, drop, None}
-use Rattle.vrx_core.specs.Step.{AreTaken, due_length}
+use Rattle.std.proofs.Common.{◌≡◌, ◌∙◌, ap, sym, drop, None}
+use Rattle.vrx_core.specs.Step.{due_run}
 use Rattle.vrx_core.specs.Held.{entries}
-use Rattle.vrx_core.proofs.HeldLemmas.{taken-take, taken-next, next-behind}
+use Rattle.vrx_core.specs.Seen.{starts_of}
+use Rattle.vrx_core.proofs.HeldLemmas.{taken-next, next-behind}
 use Rattle.vrx_core.proofs.runs.next_run.Goals as goal
 
-pub returns-in-Some-clause-taken : goal.returns-in-Some-clause-taken
-returns-in-Some-clause-taken c =
-    let rest : AreTaken c.args.settings.now (entries c.split_at.result.1.now) = subst (λ held. AreTaken c.args.settings.now (entries held)) (sym c.split_at.ensures.back) c.loop-place.invariant.taken in
-    subst (λ held. AreTaken c.args.settings.now (entries held)) (sym c.split_at-in-Some.ensures.front) (taken-take c.args.settings.now c.in-Some.length c.split_at.result.1.now rest)
-
 pub loop-place-preserved : goal.loop-place-preserved
-loop-place-preserved c =
-    let none : due_length c.args.pulled (entries (drop c.loop-place.place c.args.held.now)) ≡ None = ap (λ held. due_length c.args.pulled (entries held)) (sym c.split_at.ensures.back) ∙ sym c.due_length.ensures.value ∙ c.in-None.is in
+loop-place-preserved g c =
+    let past = c.args.past.now in
+    let none : due_run g.C.Codec.meaning (starts_of past) past.pulled (entries (drop c.loop-place.place past.held.now)) ≡ None = ap (λ held. due_run g.C.Codec.meaning (starts_of past) past.pulled (entries held)) (sym c.split_at.ensures.back) ∙ c.in-None.ensures.value in
     record {
-      next = next-behind c.args.pulled c.loop-place.place c.args.held.now none ∙ c.loop-place.invariant.next;
-      taken = taken-next c.args.settings.now c.loop-place.place c.args.held.now c.loop-place.invariant.taken;
+      next = next-behind g.C.Codec.meaning (starts_of past) past.pulled c.loop-place.place past.held.now none ∙ c.loop-place.invariant.next;
+      taken = taken-next c.args.settings.now g.C.Codec.meaning c.loop-place.place past.held.now c.loop-place.invariant.taken;
     }

@@ -8,26 +8,26 @@ use Rattle.vrx_core.proofs.StandsLemmas.{datagram-stands, datagram-reply, datagr
 use Rattle.vrx_core.proofs.engine.Engine.datagram.Goals as goal
 
 pub returns-clause-stands : goal.returns-clause-stands
-returns-clause-stands c h = datagram-stands c.args.self.now c.handle.new.self c.args.moment c.args.bytes.now c.in_ok-what.what h c.in_ok-what.ensures.value
+returns-clause-stands g c h = datagram-stands g.C.Codec.meaning c.args.self.now c.handle.new.self c.args.moment c.args.bytes.now c.in_ok-what.what h c.in_ok-what.ensures.value
 
 -- the reply with these numbers as repaired
 abbrev replied : What → List ℕ → Reply
 replied what repaired = ToDatagram (record { what = what; repaired = repaired; feedback = no_feedback })
 
 pub returns-clause-reply : goal.returns-clause-reply
-returns-clause-reply c h stands = ap (replied c.in_ok-what.what) c.new.ensures ∙ datagram-reply c.args.self.now c.handle.new.self c.args.moment c.args.bytes.now c.in_ok-what.what h c.in_ok-what.ensures.value stands
+returns-clause-reply g c h stands = ap (replied c.in_ok-what.what) c.new.ensures ∙ datagram-reply g.C.Codec.meaning c.args.self.now c.handle.new.self c.args.moment c.args.bytes.now c.in_ok-what.what h c.in_ok-what.ensures.value stands
 
 pub returns-clause-settings : goal.returns-clause-settings
-returns-clause-settings c = datagram-settings c.args.self.now c.handle.new.self c.args.moment c.args.bytes.now c.in_ok-what.what c.in_ok-what.ensures.value
+returns-clause-settings g c = datagram-settings g.C.Codec.meaning c.args.self.now c.handle.new.self c.args.moment c.args.bytes.now c.in_ok-what.what c.in_ok-what.ensures.value
 
 pub returns-clause-refused : goal.returns-clause-refused
-returns-clause-refused c refused = (refl, datagram-refused c.args.self.now c.handle.new.self c.args.moment c.args.bytes.now c.in_ok-what.what c.in_ok-what.ensures.value refused)
+returns-clause-refused g c refused = (refl, datagram-refused g.C.Codec.meaning c.args.self.now c.handle.new.self c.args.moment c.args.bytes.now c.in_ok-what.what c.in_ok-what.ensures.value refused)
 
 pub returns-clause-what : goal.returns-clause-what
-returns-clause-what c = c.in_ok-what.ensures.value.answer
+returns-clause-what g c = c.in_ok-what.ensures.value.answer
 
 pub returns-clause-counts : goal.returns-clause-counts
-returns-clause-counts c = datagram-counts c.args.self.now c.handle.new.self c.args.moment c.args.bytes.now c.in_ok-what.what c.in_ok-what.ensures.value
+returns-clause-counts g c = datagram-counts g.C.Codec.meaning c.args.self.now c.handle.new.self c.args.moment c.args.bytes.now c.in_ok-what.what c.in_ok-what.ensures.value
 
 pub returns-clause-exactly : goal.returns-clause-exactly
-returns-clause-exactly c what = answers_mean c.reasons_mean.ensures c.args.self.now.settings c.args.self.now.newest c.args.self.now.packets c.args.bytes.now (All-from_get_or (λ octet. octet < 256) c.args.bytes.now 0 (λ i within. Fits-lt-pow (c.type_inv.bytes i))) (newest-beyond c.args.self.now c.in_ok-what.ensures.sound) c.in_ok-what.what c.in_ok-what.ensures.value.answer what
+returns-clause-exactly g c what = answers_mean c.reasons_mean.ensures c.args.self.now.settings g.C.Codec.meaning c.args.self.now.newest c.args.self.now.packets c.args.bytes.now (All-from_get_or (λ octet. octet < 256) c.args.bytes.now 0 (λ i within. Fits-lt-pow (c.type_inv.bytes i))) (newest-beyond g.C.Codec.meaning c.args.self.now c.in_ok-what.ensures.sound) c.in_ok-what.what c.in_ok-what.ensures.value.answer what

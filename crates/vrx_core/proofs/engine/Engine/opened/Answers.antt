@@ -4,4 +4,4 @@ use Rattle.vrx_core.proofs.StandsLemmas.{stands-new}
 use Rattle.vrx_core.proofs.engine.Engine.opened.Goals as goal
 
 pub returns-clause-stands : goal.returns-clause-stands
-returns-clause-stands c = stands-new c.args.settings c.new.result (entries c.in-Ok.held.items) c.new.ensures (ap entries c.in-Ok.ensures.items)
+returns-clause-stands g c = stands-new g.C.Codec.meaning c.args.settings c.new.result (entries c.in-Ok.held.items) c.new.ensures (ap entries c.in-Ok.ensures.items)

@@ -1,5 +1,5 @@
 -- An honest sender and an honest network, worked by hand: the premises of the law can be met.
-use Rattle.std.proofs.Common.{◌≢◌, ◌≤◌, ◌<◌, ◌≡◌, ◌∙◌, ap, inl, inr, Contains, All, ℕ, zero, suc, ◌+◌, true, false, List, [], ◌∷◌, length, None, IfSome, slice_get, refl, arith}
+use Rattle.std.proofs.Common.{◌≢◌, ◌≤◌, ◌<◌, ◌≡◌, ◌∙◌, ap, inl, inr, Contains, All, slice_index_or, ℕ, zero, suc, ◌+◌, true, false, List, [], ◌∷◌, length, None, IfSome, slice_get, refl, arith}
 use Rattle.std.specs.Prelude.{nat_lt}
 use Rattle.std.specs.List.{AllByRecursion, list_all}
 use Rattle.std.proofs.lemmas.Bool.{and_parts, ltb-true}
@@ -20,7 +20,6 @@ use Rattle.vrx_core.specs.declared.reply.What.TheVariants as what
 use Rattle.vrx_core.specs.declared.reply.What.TheVariants.{Dropped}
 use Rattle.vrx_core.specs.declared.reply.Reason.TheVariants.{NotRtp, Repeat}
 use Rattle.vrx_core.specs.declared.reply.Pulled.TheVariants.{NotReady, Frame}
-use Rattle.vrx_core.proofs.MemberLemmas.{Contains-either, Contains-empty}
 
 abbrev settings : Settings
 settings = record { media_ssrc = 10; media_type = 96; red = None; rtx = None; from_ssrc = 11; interval = 100 }
@@ -77,31 +76,28 @@ are_octets octets h = All-from_recursion (λ octet. octet < 256) octets (each oc
 first_is : IsPart settings vp8 sender 0 first_frame 2 0 0 first_part
 first_is = record {
   sent = refl;
-  media = record { size = omega arith; below = are_octets first_text refl; reads = refl; no_padding = refl; number = refl; type = refl; source = refl; payload = λ e. cc; part_reads = refl; no_rtcp = λ r. absurd (omega (arith, r.at_most)); long = omega arith; no_extension = refl };
+  media = record { size = omega arith; below = are_octets first_text refl; reads = refl; no_padding = refl; number = refl; type = refl; source = refl; payload = λ e. cc; part_reads = refl; no_rtcp = λ r. absurd (omega (arith, r.at_most)); layers = refl };
   timestamp = refl;
   marker = (λ e. cc, λ e. absurd (omega arith));
   start = refl;
-  layers = refl;
 }
 
 second_is : IsPart settings vp8 sender 0 first_frame 2 1 1 second_part
 second_is = record {
   sent = refl;
-  media = record { size = omega arith; below = are_octets second_text refl; reads = refl; no_padding = refl; number = refl; type = refl; source = refl; payload = λ e. cc; part_reads = refl; no_rtcp = λ r. absurd (omega (arith, r.at_most)); long = omega arith; no_extension = refl };
+  media = record { size = omega arith; below = are_octets second_text refl; reads = refl; no_padding = refl; number = refl; type = refl; source = refl; payload = λ e. cc; part_reads = refl; no_rtcp = λ r. absurd (omega (arith, r.at_most)); layers = refl };
   timestamp = refl;
   marker = (λ e. refl, λ e. refl);
-  start = refl;
-  layers = refl;
+  start = λ same. omega arith;
 }
 
 third_is : IsPart settings vp8 sender 1 second_frame 1 0 2 third_part
 third_is = record {
   sent = refl;
-  media = record { size = omega arith; below = are_octets third_text refl; reads = refl; no_padding = refl; number = refl; type = refl; source = refl; payload = λ e. cc; part_reads = refl; no_rtcp = λ r. absurd (omega (arith, r.at_most)); long = omega arith; no_extension = refl };
+  media = record { size = omega arith; below = are_octets third_text refl; reads = refl; no_padding = refl; number = refl; type = refl; source = refl; payload = λ e. cc; part_reads = refl; no_rtcp = λ r. absurd (omega (arith, r.at_most)); layers = refl };
   timestamp = refl;
   marker = (λ e. refl, λ e. refl);
   start = refl;
-  layers = refl;
 }
 
 -- each frame travels
@@ -114,12 +110,16 @@ first_travels = record {
   key = (λ e. (first_part, (0, omega arith, refl), refl), λ e. refl);
 }
 
+-- what is in a list of one is that one
+only_one : {X : Type 0} (x y : X) → Contains (x ∷ []) y → x ≡ y
+only_one x y c = at_place c.0 c.1 c.2 where
+  at_place : (k : ℕ) → k < length (x ∷ []) → slice_index_or (x ∷ []) k y ≡ y → x ≡ y
+  at_place zero within is = is
+  at_place (suc k) within is = absurd (omega arith)
+
 -- no part of it says a keyframe
 no_key : (c : Carried) → Contains (third_part ∷ []) c → c.part.key ≡ true → second_frame.key ≡ true
-no_key c there key = elim (Contains-either third_part [] c there) [
-  | inl same ↦ ap (λ (x : Carried). x.part.key) same ∙ key
-  | inr later ↦ absurd (Contains-empty c later)
-]
+no_key c there key = ap (λ (x : Carried). x.part.key) (only_one third_part c there) ∙ key
 
 second_travels : Travels settings vp8 sender 1 second_frame 2 (third_part ∷ [])
 unfolding third_is
@@ -192,8 +192,8 @@ third_is_padded = record {
   spelled = refl;
 }
 
--- the last packet of the first frame, octets of a form that isn't taken, a pull, a tick, the first packet, a repeat, a
--- pull, the third packet with padding, the same without, and a pull
+-- the last packet of the first frame, octets of a form that isn't taken, a pull, a tick, the first packet, a repeat,
+-- a pull, the third packet with padding, the same without, and a pull
 abbrev events : List Event
 events =
     Datagram 0 second_text ∷ Datagram 1 (7 ∷ []) ∷ Pull 2 ∷ Tick 2 ∷ Datagram 3 first_text ∷ Datagram 3 second_text ∷ Pull 4

@@ -1,12 +1,11 @@
--- The machine and the payload descriptor on rows worked by hand.
-use Rattle.std.specs.Prelude.{◌≡◌, ℕ, true, false, List, [], ◌∷◌, refl, Some, None, Ok, Err}
+-- The machine over VP8 on rows worked by hand.
+use Rattle.std.specs.Prelude.{◌≡◌, ℕ, true, List, [], ◌∷◌, refl, None}
 use Rattle.vrx_core.specs.Machine.{handled_as, ToDatagram, ToTick, ToPull, no_feedback, replies, reply, snapshots}
-use Rattle.vrx_codec.specs.declared.part.Start.TheVariants.{Yes}
-use Rattle.vrx_vp8.specs.Descriptor.{read_part, vp8}
+use Rattle.vrx_vp8.specs.Descriptor.{vp8}
 use Rattle.vrx_core.specs.declared.settings.Settings.{Settings}
 use Rattle.vrx_core.specs.declared.event.Event.TheVariants.{Datagram, Tick, Pull}
 use Rattle.vrx_core.specs.declared.reply.What.TheVariants.{Media, Dropped}
-use Rattle.vrx_core.specs.declared.reply.Reason.TheVariants.{TooFar, TooOld, Repeat}
+use Rattle.vrx_core.specs.declared.reply.Reason.TheVariants.{BadPart, Form, TooFar, TooOld, Repeat}
 use Rattle.vrx_core.specs.declared.reply.Pulled.TheVariants.{NotReady, Frame}
 
 abbrev settings : Settings
@@ -54,19 +53,12 @@ pub too_old : replies settings vp8 [] (Datagram 0 (numbered 8 1) ∷ Datagram 0 
 unfolding replies reply snapshots
 too_old = refl
 
--- 80: the descriptor runs past the end
-pub descriptor_cut : read_part (128 ∷ []) ≡ Err (record { code = 1; at = 1 })
-descriptor_cut = refl
+-- a packet of the stream that has this payload
+abbrev carrying : List ℕ → List ℕ
+carrying payload = 128 ∷ 96 ∷ 0 ∷ 1 ∷ 0 ∷ 0 ∷ 0 ∷ 0 ∷ 0 ∷ 0 ∷ 0 ∷ 10 ∷ payload
 
--- 10: no body follows the descriptor
-pub body_missing : read_part (16 ∷ []) ≡ Err (record { code = 2; at = 1 })
-body_missing = refl
-
--- 90e08001050000aa: the start of a keyframe, with layers
-pub part_with_layers : read_part (144 ∷ 224 ∷ 128 ∷ 1 ∷ 5 ∷ 0 ∷ 0 ∷ 170 ∷ [])
-    ≡ Ok (record { start = Yes; key = true; layers = Some (record { picture = 1; tl0 = 5; tid = 0; sync = false }); body = 0 ∷ 170 ∷ [] })
-part_with_layers = refl
-
--- 1000aa: the start of a keyframe, without layers
-pub part_alone : read_part (16 ∷ 0 ∷ 170 ∷ []) ≡ Ok (record { start = Yes; key = true; layers = None; body = 0 ∷ 170 ∷ [] })
-part_alone = refl
+-- 80: the descriptor runs past the end; 10: no body follows it; no payload; a part with layers; bit X, and no layers
+pub payloads : replies settings vp8 [] (Datagram 0 (carrying (128 ∷ [])) ∷ Datagram 0 (carrying (16 ∷ [])) ∷ Datagram 0 (carrying []) ∷ Datagram 0 (carrying (144 ∷ 224 ∷ 128 ∷ 1 ∷ 5 ∷ 0 ∷ 0 ∷ 170 ∷ [])) ∷ Datagram 0 (carrying (144 ∷ 0 ∷ 0 ∷ 170 ∷ [])) ∷ [])
+    ≡ ToDatagram (handled_as (Dropped (BadPart 1))) ∷ ToDatagram (handled_as (Dropped (BadPart 2))) ∷ ToDatagram (handled_as (Dropped Form)) ∷ ToDatagram (handled_as (Dropped Form)) ∷ ToDatagram (handled_as (Media 65537)) ∷ []
+unfolding replies reply snapshots
+payloads = refl
