@@ -192,7 +192,7 @@ third_is_padded = record {
   spelled = refl;
 }
 
--- the last packet of the first frame, octets of a form that isn't taken, a pull, a tick, the first packet, a repeat,
+-- the last packet of the first frame, octets that are no packet, a pull, a tick, the first packet, a repeat,
 -- a pull, the third packet with padding, the same without, and a pull
 abbrev events : List Event
 events =

@@ -6,6 +6,7 @@ pub mod LooksLemmas
 pub mod HeadLemmas
 pub mod SettingsLemmas
 pub mod HonestLinesLemmas
+pub mod EvidentLemmas
 pub mod EngineRows
 pub mod HonestRows
 pub mod Rows

@@ -3,6 +3,7 @@ pub mod Replay
 pub mod Inspect
 pub mod Words
 pub mod Ends
+pub mod Evident
 pub mod HasRead
 pub mod Plays
 pub mod Looks

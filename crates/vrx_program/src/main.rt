@@ -13,6 +13,7 @@ ghost use Rattle.vrx_program.specs.Ends.{Ends};
 ghost use Rattle.vrx_program.specs.HonestLines.{IsHonestCapture, HonestLines};
 
 mod inspect;
+mod laws;
 mod refuse;
 mod replay;
 mod status;
@@ -21,6 +22,7 @@ mod tests;
 mod word;
 
 use crate::inspect::inspect;
+pub use crate::laws::vp8_begins_evidently;
 use crate::replay::replay;
 pub use crate::status::Status;
 pub use crate::word::Word;

@@ -223,8 +223,8 @@ const RUNS: [(&str, &str, &str); 31] = [
         "d 0 80600001000000000000000a7800aa\nd 0 80e00002000000000000000a68bb\np 0\n",
         "2 media 65537\n3 media 65538\n4 frame 65537 65538 key 0 00aabb\n",
     ),
-    // 9080 01, 8080 01 and 8000: X, with I and a PictureID of 7 bits, or with no flag. Three octets are the descriptor of
-    // the first and of the second, and two that of the third. S = 1 in the first alone.
+    // 9080 01, 8080 01 and 8000: X, with I and a PictureID of 7 bits, or with no flag. Three octets are the
+    // descriptor of the first and of the second, and two that of the third. S = 1 in the first alone.
     (
         "descriptors of several octets",
         "d 0 80600001000000000000000a90800100aa\nd 0 80600002000000000000000a808001bb\nd 0 80e00003000000000000000a8000cc\np 0\n",
@@ -243,8 +243,8 @@ const RUNS: [(&str, &str, &str); 31] = [
         "d 0 80600001000000000000000a1000aa\nd 0 80e00002000000000000000a1001bb\nd 0 80e00002000000000000000a00bb\np 0\n",
         "2 media 65537\n3 media 65538\n4 drop Repeat\n5 notready\n",
     ),
-    // X and I, and no PictureID behind them: the refused one left nothing under its number, so the part that follows isn't
-    // a repeat.
+    // X and I, and no PictureID behind them: the refused one left nothing under its number, so the part that follows
+    // isn't a repeat.
     (
         "a part behind a refused one of its number",
         "d 0 80600001000000000000000a1000aa\nd 0 80e00002000000000000000a8080\nd 0 80e00002000000000000000a00bb\np 0\n",

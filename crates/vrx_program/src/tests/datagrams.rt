@@ -78,23 +78,23 @@ const KINDS: [(&str, &str, &str); 15] = [
         "d 0 80600001000000000000000a80\nd 0 80e00001000000000000000a9080\nd 0 80e00001000000000000000a9040\nd 0 80e00001000000000000000a9020\nd 0 80e00001000000000000000a9010\nd 0 80e00001000000000000000a908080\nd 0 80e00001000000000000000a90e0800105\nd 0 a0e00001000000000000000a80000003\n",
         "2 drop BadPart 1\n3 drop BadPart 1\n4 drop BadPart 1\n5 drop BadPart 1\n6 drop BadPart 1\n7 drop BadPart 1\n8 drop BadPart 1\n9 drop BadPart 1\n",
     ),
-    // Nothing follows the descriptor: of one octet, with S = 1 and with S = 0; of X with no flag, and with a PictureID
-    // of 7 bits; with layers, of which the receiver tells no Form then; of one octet in front of padding.
+    // Nothing follows the descriptor: of one octet, with S = 1 and with S = 0; of X with no flag, and with a
+    // PictureID of 7 bits; with layers, of which the receiver tells no Form then; of one octet in front of padding.
     (
         "BadPart 2",
         "d 0 80600001000000000000000a10\nd 0 80e00001000000000000000a00\nd 0 80e00001000000000000000a9000\nd 0 80e00001000000000000000a908001\nd 0 80e00001000000000000000a90e080010500\nd 0 a0e00001000000000000000a10000003\n",
         "2 drop BadPart 2\n3 drop BadPart 2\n4 drop BadPart 2\n5 drop BadPart 2\n6 drop BadPart 2\n7 drop BadPart 2\n",
     ),
-    // No payload, also in front of padding; and layers, which are X, I, L, T and a PictureID of 15 bits: with S = 1 and
-    // with S = 0, and with K beside them, which has the same octet as T.
+    // No payload, also in front of padding; and layers, which are X, I, L, T and a PictureID of 15 bits: with S = 1
+    // and with S = 0, and with K beside them, which has the same octet as T.
     (
         "Form",
         "d 0 80e00001000000000000000a\nd 0 a0e00001000000000000000a00000004\nd 0 80e00001000000000000000a90e08001050000aa\nd 0 80e00001000000000000000a80e08001050000aa\nd 0 80e00001000000000000000a90f08001050000aa\n",
         "2 drop Form\n3 drop Form\n4 drop Form\n5 drop Form\n6 drop Form\n",
     ),
-    // X, and some of I, L, T and K and of the PictureID's bits, but never I, L, T and 15 bits: no layers. The frame is
-    // what stands behind the descriptor: 9080 01 (7 bits); 9080 8001 (15 bits); 90e0 01 05 00 (7 bits, L and T); 90c0
-    // 8001 05 (no T); 90d0 8001 05 00 (K, no T); 90a0 8001 00 (no L); 900f (RSV alone).
+    // X, and some of I, L, T and K and of the PictureID's bits, but never I, L, T and 15 bits: no layers. The frame
+    // is what stands behind the descriptor: 9080 01 (7 bits); 9080 8001 (15 bits); 90e0 01 05 00 (7 bits, L and T);
+    // 90c0 8001 05 (no T); 90d0 8001 05 00 (K, no T); 90a0 8001 00 (no L); 900f (RSV alone).
     (
         "an extension without layers",
         "d 0 80e00001000000000000000a90800100a1\np 0\nd 0 80e00002000000000000000a9080800100a2\np 0\nd 0 80e00003000000000000000a90e001050000a3\np 0\nd 0 80e00004000000000000000a90c080010500a4\np 0\nd 0 80e00005000000000000000a90d08001050000a5\np 0\nd 0 80e00006000000000000000a90a080010000a6\np 0\nd 0 80e00007000000000000000a900f00a7\np 0\n",

@@ -139,7 +139,7 @@ fn other_datagrams_are_refused_and_only_counted(rt: HostRuntime) -> Result<(), F
         (4, 11, 0x0b, Reason::OtherSsrc),
         (4, 1, 0xe1, Reason::OtherType), // type 97
         (4, 1, 0xbf, Reason::OtherType), // type 63, and 191 as an RTCP type
-        (3, 1, 0xc0, Reason::BadRtcp), // 192, of a length of 32,770 words
+        (3, 1, 0xc0, Reason::BadRtcp), // 192, with 32,770 in its length field
         (3, 1, 0xdf, Reason::BadRtcp), // 223
     ] {
         let count = engine.events();
