@@ -1,4 +1,4 @@
--- The laws of extending a wire number, for proofs of crates above.
+-- The laws of extending a wire number.
 use Rattle.std.proofs.Common.{◌≡◌, ℕ, ◌<◌, ◌≤◌, arith, None, Some}
 use Rattle.std.proofs.lemmas.Grind.{common_steps}
 use Rattle.vrx_num.specs.Extended.{Extends, IsHalfAway, extended}

@@ -1,2 +1,2 @@
-pub mod ExtendedLemmas
-pub mod ExtendedRows
+mod ExtendedLemmas
+mod ExtendedRows

@@ -3,13 +3,11 @@
 ghost use Rattle.std.specs.Prelude.{◌≡◌, ℕ, ◌+◌, ◌^◌, ◌≤◌, ◌↔◌, Option, None, MatchOption, IfSome, IsNone};
 ghost use Rattle.vrx_num.specs.Extended.{Extends, IsHalfAway, IsNewest, extended, greater};
 
+use crate::limits::HALF_SPACE;
 use std::marker::Model;
 
 /// How many numbers 16 bits tell apart.
 const SPACE: u64 = 65_536;
-
-/// Half of the space.
-const HALF: u64 = 32_768;
 
 /// The greatest sequence number taken so far, extended beyond 16 bits (RFC 3550 A.1).
 ///
@@ -58,7 +56,7 @@ impl Extender {
         let Some(newest) = self.newest else {
             return Some(u64::from(wire) + SPACE);
         };
-        let half_behind = newest - HALF;
+        let half_behind = newest - HALF_SPACE;
         let ahead = (u64::from(wire) + SPACE - half_behind % SPACE) % SPACE;
         if ahead == 0 {
             return None;
@@ -68,7 +66,7 @@ impl Extender {
 
     /// Takes the number `n`: the newest is now the greater of the newest so far, if there is one, and `n`.
     pub fn accept(&mut self, n: u64)
-        requires at_least { 32768 ≤ n }
+        requires at_least { HALF_SPACE ≤ n }
         requires at_most { n ≤ 2 ^ 62 }
         ensures { self.new ≡ greater self.old n }
     {

@@ -6,11 +6,12 @@
 //!
 //! [`Numbers`] is a list of such numbers, and [`NoMemory`] the error of what fails only for want of memory.
 //!
-//! `proofs/ExtendedLemmas.antt` has the laws of the definitions, for proofs of crates above.
+//! [`limits`] names the receiver's limits, each once for all crates.
 #![tactic(auto)]
 
 mod extender;
 mod laws;
+pub mod limits;
 mod no_memory;
 mod numbers;
 

@@ -1,0 +1,16 @@
+//! The receiver's limits. They are this project's own.
+
+/// How many sequence numbers the window has: the newest and those below it.
+pub const WINDOW: u64 = 2_048;
+
+/// A datagram has at most so many octets.
+pub const MOST_OCTETS: usize = 9_216;
+
+/// A number this far from the newest, or farther, has no place beside it: half of the 16 bits (RFC 3550 A.1).
+pub const HALF_SPACE: u64 = 32_768;
+
+/// An engine takes at most so many events.
+pub const MOST_EVENTS: u32 = 1_048_576;
+
+/// The longest interval between two requests of a number, in milliseconds.
+pub const LONGEST_INTERVAL: u32 = 60_000;
