@@ -17,17 +17,17 @@ pub record Joining : Type 0 where
 abbrev pub beginning : Join
 beginning = record { unit = None; octets = 0 }
 
--- no more octets, where the end is right
+-- no more octets, if the end is right
 abbrev pub ended : Result ℕ JoinFault → Result (List ℕ) JoinFault
 ended (Ok octets) = Ok []
 ended (Err fault) = Err fault
 
--- these octets, and what is joined behind them
+-- these octets, and what is joined after them
 abbrev pub with_front : List ℕ → Result (List ℕ) JoinFault → Result (List ℕ) JoinFault
 with_front front (Ok octets) = Ok (front ++ octets)
 with_front front (Err fault) = Err fault
 
--- what comes next, where there was no fault
+-- what comes next, if there was no fault
 abbrev pub and_then : Result Join JoinFault → (Join → Result (List ℕ) JoinFault) → Result (List ℕ) JoinFault
 and_then (Ok state) next = next state
 and_then (Err fault) next = Err fault

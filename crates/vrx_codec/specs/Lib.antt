@@ -1,4 +1,5 @@
 pub mod Joining
 pub mod Meaning
+pub mod Octet
 pub mod Part
 pub mod View

@@ -4,7 +4,7 @@ use Rattle.std.specs.Prelude.{ℕ, Bool, List, Option}
 use Rattle.vrx_codec.specs.declared.part.Start.{Start}
 use Rattle.vrx_codec.specs.declared.part.Layers.{Layers}
 
--- what one payload says: key of a part that alone makes its frame a keyframe
+-- what one payload says: key of a part that makes its frame a keyframe by itself
 pub record Part : Type 0 where
   pub start : Start
   pub key : Bool

@@ -56,7 +56,7 @@ pub trait Codec {
     /// Parts that join one after the other, from the beginning on, join to what the list of them does.
     ghost joins: { (parts : List PartSaid) → joined joining parts beginning ≡ meaning.join parts };
 
-    /// An end that is right answers the octets so far.
+    /// An end that is right answers the octets of the state.
     ghost counted: { (state : Join) → IfOk (joining.end state) (λ octets. octets ≡ state.octets) };
 
     /// A part that joins raises the octets by exactly those that it adds, at most five times those of its body.

@@ -1,10 +1,10 @@
 //! How far joining has come.
 
-/// What joining keeps of the parts so far. It begins with no unit and no octets.
+/// What joining keeps of the parts that were joined. It begins with no unit and no octets.
 #[derive(Clone, Copy, Debug, PartialEq, Eq)]
 pub struct Join {
-    /// The first octet of the unit that is open, where a codec's parts carry pieces of units.
+    /// The first octet of the unit that is open, if a codec's parts carry pieces of units.
     pub unit: Option<u8>,
-    /// How many octets the parts so far have added.
+    /// How many octets they have added.
     pub octets: u32,
 }

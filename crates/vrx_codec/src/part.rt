@@ -29,11 +29,11 @@ pub struct Layers {
 pub struct Part<'a> {
     /// Whether it is the first of its frame.
     pub start: Start,
-    /// Whether it alone makes its frame a keyframe.
+    /// Whether it makes its frame a keyframe by itself.
     pub key: bool,
-    /// The frame's place among temporal layers, where the payload says it.
+    /// The frame's place among temporal layers, if the payload says it.
     pub layers: Option<Layers>,
-    /// What the payload brings of the frame: the octets behind the descriptor for VP8 (RFC 7741 4.2), and the whole
+    /// What the payload brings of the frame: the octets after the descriptor for VP8 (RFC 7741 4.2), and the whole
     /// payload for H.264 (RFC 6184 5.2).
     pub body: &'a [u8],
 }

@@ -14,7 +14,7 @@ pub struct Place {
 }
 
 /// A run: the packets of a whole frame, which stand under successive numbers.
-#[derive(Clone, Copy, Debug, PartialEq, Eq)]
+#[derive(Clone, Copy, Debug, Default, PartialEq, Eq)]
 pub struct Run {
     /// The extended sequence number of its first packet (RFC 3550 A.1).
     pub first: u64,
@@ -24,7 +24,7 @@ pub struct Run {
     pub ts: u32,
     /// Whether it is a keyframe: some part of it says so.
     pub key: bool,
-    /// Its place among temporal layers, where its first part has layers.
+    /// Its place among temporal layers, if its first part has layers.
     pub layers: Option<Place>,
     /// How many octets its parts join to.
     pub octets: u32,

@@ -1,36 +1,5 @@
-pub mod AnswerLemmas
-pub mod AvailableLemmas
-pub mod BeginLemmas
-pub mod EntryLemmas
-pub mod SettingsLemmas
-pub mod ControlLemmas
-pub mod AsideLemmas
-pub mod EdgeLemmas
-pub mod FormLemmas
-pub mod FrameLemmas
-pub mod FrontLemmas
-pub mod HandledLemmas
-pub mod HeldLemmas
-pub mod HoldsLemmas
-pub mod HonestLemmas
-pub mod HonestRunsLemmas
-pub mod HonestTakenLemmas
-pub mod JoinLemmas
-pub mod KeepsLemmas
-pub mod KeptLemmas
-pub mod KeyLemmas
-pub mod MachineLemmas
-pub mod MemberLemmas
-pub mod NeighbourRows
-pub mod NumberLemmas
-pub mod PartLemmas
-pub mod PassedLemmas
-pub mod PulledLemmas
-pub mod ReadyLemmas
-pub mod ReasonLemmas
-pub mod RunLemmas
-pub mod SearchLemmas
-pub mod SoundLemmas
-pub mod StandsLemmas
-pub mod TakenLemmas
-pub mod TextLemmas
+mod machine
+mod buffer
+mod relation
+mod step
+mod honest

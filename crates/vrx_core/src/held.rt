@@ -1,72 +1,43 @@
-//! The packets of the window: a plain list, in the order of their numbers, that is searched at each call.
+//! The packet to hold of a datagram.
 
-ghost use Rattle.std.specs.Prelude.{◌≡◌, ◌<◌, ◌≤◌, true, false, length, insert, OnOk, OnErr};
-ghost use Rattle.std.specs.Ordering.{nat_cmp};
-ghost use Rattle.std.specs.FinMap.Entries.{put, is_sorted};
-ghost use Rattle.vrx_core.specs.Window.{Content, Media, is_available, in_window, placed};
-ghost use Rattle.vrx_core.specs.Held.{entries};
+ghost use Rattle.std.specs.Prelude.{◌≡◌, Some, None, IfOk};
+ghost use Rattle.vrx_rtp.specs.View.{view};
+ghost use Rattle.vrx_window.specs.Content.{content_of};
+ghost use Rattle.vrx_window.specs.Sound.{IsSound, place_of};
+ghost use Rattle.vrx_core.specs.machine.Text.{packet_text};
+ghost use Rattle.vrx_core.specs.inside.Seen.{view_brought, IsSeen};
 
-use bytes::Bytes;
-use std::alloc::{AllocError, Global};
+use crate::original::{Brought, Seen};
+use crate::text::text_of;
+use std::alloc::Global;
+use vrx_codec::Codec;
 use vrx_num::NoMemory;
+use vrx_rtp::one_reading;
+use vrx_window::Held;
 
-/// A packet that is available, by its extended sequence number.
-#[derive(Drop)]
-pub(crate) struct Held {
-    /// Its extended sequence number.
-    pub(crate) number: u64,
-    /// Its text: its datagram without padding.
-    pub(crate) text: Bytes,
-}
-
-/// How many numbers the window has.
-pub(crate) const WINDOW: u64 = 2_048;
-
-/// Whether a number stands in the window after the newest one.
-fn is_in_window(newest: u64, number: u64) -> bool
-    ensures { result ≡ in_window newest number }
+/// The packet to hold of a datagram that was seen so. It takes the memory of its text, if it is media.
+pub(crate) fn held_of<C: Codec>(
+    alloc: Global,
+    octets: &[u8],
+    seen: &Seen<'_>,
+) -> Result<Held, NoMemory>
+    requires seen { IsSeen C.meaning octets.now seen.now }
+    ensures content { IfOk result (λ held. content_of held ≡ view_brought (packet_text (view seen.now.packet)) seen.now.brought) }
+    ensures sound { IfOk result (λ held. IsSound C.meaning held) }
+    ensures plain { IfOk result (λ held. place_of (Some held) ≡ None) }
 {
-    number <= newest && newest - number < WINDOW
-}
-
-/// Whether a number is available.
-pub(crate) fn holds(held: &[Held], number: u64) -> bool
-    ensures { result ≡ is_available number (entries held.now) }
-{
-    for packet in held {
-        if packet.number == number {
-            return true;
-        }
+    one_reading();
+    match seen.brought {
+        Brought::Media(part) => Ok(Held::Media {
+            text: text_of(alloc, octets, &seen.packet)?,
+            marker: seen.packet.marker,
+            ts: seen.packet.ts,
+            start: part.start,
+            key: part.key,
+            layers: None,
+        }),
+        Brought::Empty => Ok(Held::Empty {
+            marker: seen.packet.marker,
+        }),
     }
-    false
-}
-
-/// Where a packet that isn't there yet goes.
-fn place_of(held: &[Held], number: u64) -> usize
-    ensures within { result ≤ length held.now }
-    ensures place { (content : Content) → is_available number (entries held.now) ≡ false →
-        put nat_cmp number content (entries held.now) ≡ insert (entries held.now) result (number, content) }
-{
-    for (i, packet) in held.iter().enumerate() {
-        if number < packet.number {
-            return i;
-        }
-    }
-    held.len()
-}
-
-/// Puts a packet in its place, and drops those that the window has left. Only the first takes memory: an `Err`
-/// changes nothing.
-pub(crate) fn place(held: &mut Vec<Held>, newest: u64, packet: Held) -> Result<(), AllocError>
-    requires fresh { is_available packet.number (entries held.old.items) ≡ false }
-    requires sorted { is_sorted nat_cmp (entries held.old.items) ≡ true }
-    requires inside { in_window newest packet.number ≡ true }
-    ensures ok { OnOk result (entries held.new.items
-        ≡ placed newest packet.number (Media packet.text) (entries held.old.items)) }
-    ensures err { OnErr result (held.new.items ≡ held.old.items) }
-{
-    let at = place_of(held, packet.number);
-    held.insert(at, packet)?;
-    held.retain(|packet| is_in_window(newest, packet.number));
-    Ok(())
 }

@@ -1,32 +1,40 @@
 //! What holds of every call. A law runs nothing: its clause is what it is for.
 
-ghost use Rattle.vrx_core.specs.HonestCall.{HonestCallHolds};
-ghost use Rattle.vrx_core.specs.HonestRuns.{HonestRunsHolds};
-ghost use Rattle.vrx_core.specs.HonestTaken.{HonestTakenHolds};
+ghost use Rattle.vrx_core.specs.honest.HonestCall.{HonestCallHolds};
+ghost use Rattle.vrx_core.specs.honest.HonestRuns.{HonestRunsHolds};
+ghost use Rattle.vrx_core.specs.honest.HonestTaken.{HonestTakenHolds};
 
+use vrx_frames::runs_are;
+use vrx_num::extended_is_near;
 use vrx_rtp::one_reading;
 
-/// The honest call. An honest sender sends keyframes and delta frames of any number of packets each. An honest
-/// network brings what was sent, with padding or without, with loss, repeats and in any order, each packet at most
-/// 32,768 places away from the greatest one taken so far, and beside it only octets that are RTCP or are refused
-/// whatever came before. Then the frames pulled are frames that were sent, byte for byte, in the order in which they
-/// were sent, each at most once, from a keyframe on, and each after its chain and its references. Each pull is
-/// answered by the least frame that is ready, and by `NotReady` exactly where none is. It holds for all settings and
-/// every codec's meaning.
+/// The honest call. An honest sender sends keyframes and delta frames of any number of packets each, and packets
+/// without a payload between them. An honest network brings what was sent, with padding or without, with loss, repeats
+/// and in any order, each packet at most 32,768 places away from the greatest one taken, and beside it only octets that
+/// are RTCP or are refused whatever came before. Then the frames pulled are frames that were sent, byte for byte, in
+/// the order in which they were sent, each at most once, from a keyframe on, and each after its chain and its
+/// references. Each pull is answered by the least frame that is ready, and by `NotReady` exactly if none is. It holds
+/// for all settings without a fault and every codec's meaning.
 pub fn honest_call()
-    ensures { HonestCallHolds }
+    ensures honest { HonestCallHolds }
 {
+    // Each call cites the laws that the proof needs, and runs nothing.
+    runs_are();
+    extended_is_near();
     one_reading();
 }
 
-/// What a receiver takes and keeps in an honest call, in the sender's terms alone. A datagram of the sender is taken
-/// exactly where it is the first, or its packet wasn't taken before, lies fewer than 2,048 places below the greatest
-/// packet taken and fewer than 32,768 above it. Where it is taken, it is answered by its packet's number. The packets
-/// available are those taken that lie fewer than 2,048 places below the greatest, each under its number and octet for
-/// octet as it was sent, without padding, and nothing else is available.
+/// What a receiver takes and keeps in an honest call, said in the sender's terms only. A datagram of the sender is taken
+/// exactly if it is the first, or its packet wasn't taken before, lies fewer than 2,048 places below the greatest
+/// packet taken and fewer than 32,768 above it. If it is taken, it is answered as what it brings, by its packet's
+/// number. The packets available are those taken that lie fewer than 2,048 places below the greatest, each under its
+/// number: a media packet octet for octet as it was sent, without padding, and an empty packet as empty. Nothing else
+/// is available.
 pub fn honest_taken()
-    ensures { HonestTakenHolds }
+    ensures taken { HonestTakenHolds }
 {
+    // Each call cites the laws that the proof needs, and runs nothing.
+    extended_is_near();
     one_reading();
 }
 
@@ -34,7 +42,10 @@ pub fn honest_taken()
 /// numbers of the frame's packets, its timestamp, its kind and its bytes. And each frame all of whose packets are
 /// available, which lies beyond every frame pulled, and of which it is evident where it begins, is a run that stands.
 pub fn honest_runs()
-    ensures { HonestRunsHolds }
+    ensures runs { HonestRunsHolds }
 {
+    // Each call cites the laws that the proof needs, and runs nothing.
+    runs_are();
+    extended_is_near();
     one_reading();
 }

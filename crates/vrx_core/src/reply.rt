@@ -9,7 +9,8 @@ use vrx_rtcp::Feedback;
 
 /// Why a datagram was refused. Under each of them all stays as it was but the clock and the count of events.
 ///
-/// They stand in the order in which they are tested, but for `Form`, which is tested before `TooFar`.
+/// They stand in the order in which they are tested, but for `Form`, which is tested before `TooFar`. `NoApt`,
+/// `RtxEmpty`, `MoreBlocks`, `BadRed`, `BadFec` and `Dead` are never answered.
 #[derive(Clone, Copy, Debug, PartialEq, Eq)]
 pub enum Reason {
     /// It has more than 9,216 octets.
@@ -24,15 +25,15 @@ pub enum Reason {
     OtherSsrc,
     /// Its payload type isn't the media type of the settings.
     OtherType,
-    /// It is a retransmission of a payload type that the settings don't have. It isn't told so far.
+    /// It is a retransmission of a payload type that the settings don't have.
     NoApt,
-    /// It is a retransmission without an original sequence number (RFC 4588 4). It isn't told so far.
+    /// It is a retransmission without an original sequence number (RFC 4588 4).
     RtxEmpty,
-    /// It is RED of more than one block (RFC 2198 3). It isn't told so far.
+    /// It is RED of more than one block (RFC 2198 3).
     MoreBlocks,
-    /// It is RED, and its block is neither media nor FEC. It isn't told so far.
+    /// It is RED, and its block is neither media nor FEC.
     BadRed,
-    /// It is FEC that doesn't read (RFC 5109 7). It isn't told so far.
+    /// It is FEC that doesn't read (RFC 5109 7).
     BadFec,
     /// Its payload isn't empty, and is no part of a frame, for this fault of the codec's.
     BadPart {
@@ -43,11 +44,11 @@ pub enum Reason {
     TooFar,
     /// Its number lies below the window.
     TooOld,
-    /// Its number was given up. It isn't told so far.
+    /// Its number was given up.
     Dead,
     /// Its number is available already.
     Repeat,
-    /// Its payload is empty, or a part with layers: the receiver takes neither so far.
+    /// Its payload is a part with layers (RFC 7741 4.2), which the receiver doesn't take.
     Form,
 }
 
@@ -56,9 +57,9 @@ pub enum Reason {
 pub enum What {
     /// It was taken as the media packet of this extended sequence number.
     Media(u64),
-    /// It was taken as the FEC packet of this extended sequence number. So far none is.
+    /// It was taken as the FEC packet of this extended sequence number. It is never answered.
     Fec(u64),
-    /// It was taken as the packet of this extended sequence number, and has no payload. So far none is.
+    /// It was taken as the packet of this extended sequence number, and has no payload.
     Empty(u64),
     /// It is RTCP, and changed nothing but the clock and the count of events.
     Rtcp,
@@ -71,9 +72,9 @@ pub enum What {
 pub struct Handled {
     /// What became of it.
     pub what: What,
-    /// The extended sequence numbers of the packets that were repaired by it. So far none are.
+    /// The extended sequence numbers of the packets that were repaired by it: none.
     pub repaired: Numbers,
-    /// The feedback that is to be sent. So far there is none.
+    /// The feedback that is to be sent: none.
     pub feedback: Feedback,
 }
 

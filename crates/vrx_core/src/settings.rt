@@ -9,9 +9,9 @@ pub struct Settings {
     pub media_ssrc: u32,
     /// The payload type of the media packets: below 64, or 96 to 127.
     pub media_type: u8,
-    /// The payload types of RED, where media may come in it. It isn't taken so far.
+    /// The payload types of RED, if media may come in it. `Engine::new` doesn't take it.
     pub red: Option<Red>,
-    /// The stream of retransmissions, where there is one. It isn't taken so far.
+    /// The stream of retransmissions, if there is one. `Engine::new` doesn't take it.
     pub rtx: Option<Rtx>,
     /// The SSRC under which this receiver sends its feedback.
     pub from_ssrc: u32,
@@ -57,8 +57,8 @@ pub enum NewFault {
     /// The interval of requests is 0 or above 60,000.
     #[error("the interval is 0 or above 60,000")]
     BadInterval,
-    /// RED or retransmissions are given, which the receiver doesn't take so far.
-    #[error("RED and retransmissions are not taken yet")]
+    /// RED or retransmissions are given, which the receiver doesn't take.
+    #[error("RED and retransmissions are not taken")]
     Later,
     /// No memory was to be had.
     #[error("out of memory")]

@@ -2,7 +2,7 @@
 
 ghost use Rattle.std.specs.Prelude.{◌≡◌, ◌==◌, Some, None};
 ghost use Rattle.std.specs.List.{list_any};
-ghost use Rattle.vrx_core.specs.SettingsFault.{given, types_of, ssrcs_of, is_bad_type as is_bad_type_of, holds as holds_of, has_equal as has_equal_of, lacks_red as lacks_red_of, is_bad_interval as is_bad_interval_of, fault_of as first_fault_of};
+ghost use Rattle.vrx_core.specs.machine.SettingsFault.{given, types_of, ssrcs_of, is_bad_type as is_bad_type_of, holds as holds_of, has_equal as has_equal_of, lacks_red as lacks_red_of, is_bad_interval as is_bad_interval_of, fault_of as first_fault_of};
 
 use crate::settings::{NewFault, Settings};
 

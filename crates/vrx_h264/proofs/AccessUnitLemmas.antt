@@ -1,4 +1,4 @@
--- Pieces join exactly where they carry units one behind another, and each fault comes where they don't.
+-- Pieces join exactly if they carry units one after another, and each fault comes if they don't.
 use Rattle.std.proofs.Common.{◌≡◌, ◌≢◌, ℕ, ◌==◌, if◌then◌else◌, Bool, true, false, ◌⊎◌, inl, inr, List, [], ◌∷◌, ◌++◌, map, Option, None, Some, Result, Ok, Err, refl, sym, ap, ◌∙◌, append_assoc, subst, arith}
 use Rattle.std.specs.List.{flat_map, AllByRecursion}
 use Rattle.std.proofs.lemmas.Bool.{eq-eqb, ne_eqb, cases_Bool, cases_eq}
@@ -10,7 +10,7 @@ use Rattle.vrx_h264.specs.Payload.{Fragment, begins, ends, first_octet, Piece, W
 use Rattle.vrx_h264.specs.AccessUnit.{no_start, no_end, mixed, Joined, with_unit, with_rest, units_from}
 use Rattle.vrx_h264.specs.IsAccessUnit.{IsLater, IsBegun, IsCutUp, Carry, AreUnits, LacksStart, NoLater, LacksEnd, IsMixed}
 
--- units more, and what is joined behind them
+-- units more, and what is joined after them
 abbrev with_units : List (List ℕ) → Result Joined JoinFault → Result Joined JoinFault
 with_units [] later = later
 with_units (unit ∷ units) later = with_unit unit (with_units units later)
@@ -173,7 +173,7 @@ begun_further begun first inner f is later = record {
   inside = all_and_one (IsLater (kind first.header) false) inner f is.inside later;
 }
 
--- what pieces are, behind those that begin a unit where there are some
+-- what pieces are, after those that begin a unit if there are some
 abbrev Begun : Type 0
 Begun = Option (Fragment × List Fragment)
 

@@ -1,4 +1,4 @@
-pub mod AccessUnitLemmas
-pub mod PayloadLemmas
-pub mod UnitsLemmas
-pub mod WrittenLemmas
+mod AccessUnitLemmas
+mod PayloadLemmas
+mod UnitsLemmas
+mod WrittenLemmas

@@ -1,4 +1,4 @@
--- A payload has no fault exactly where its octets carry units, and they carry those units alone.
+-- A payload has no fault exactly if its octets carry units, and they carry only those units.
 use Rattle.std.proofs.Common.{◌≡◌, ◌≢◌, ℕ, zero, suc, ◌+◌, ◌-◌, ◌*◌, ◌/◌, ◌%◌, ◌<◌, ◌≤◌, inl, inr, ◌==◌, ◌&&◌, if◌then◌else◌, Bool, true, false, List, [], ◌∷◌, ◌++◌, length, map, take, drop, Option, None, Some, IfSome, IfOk, Ok, refl, sym, ap, subst, ◌∙◌, append_assoc, arith}
 use Rattle.std.specs.List.{flat_map, AllByRecursion}
 use Rattle.std.proofs.lemmas.Bool.Decides.{nat_tests}
@@ -7,9 +7,13 @@ use Rattle.std.proofs.lemmas.List.Concat.{flat_map-cons}
 use Rattle.std.proofs.lemmas.List.Elements.{All-head, All-tail, All-drop}
 use Rattle.vrx_codec.specs.declared.fault.PartFault.{PartFault}
 use Rattle.vrx_codec.specs.Joining.{AreOctets}
+use Rattle.vrx_codec.specs.Octet.{bit}
+use Rattle.vrx_h264.specs.declared.bits.TheConstants.{BIT_S, BIT_E}
+use Rattle.vrx_h264.specs.declared.faults.TheConstants.{KIND, FU_BOTH}
+use Rattle.vrx_h264.specs.declared.types.TheConstants.{STAP_A, FU_A}
 use Rattle.vrx_h264.specs.declared.nal.Form.{Form}
 use Rattle.vrx_h264.specs.declared.nal.Form.TheVariants.{Single, Aggregate, Fragmented, Other}
-use Rattle.vrx_h264.specs.Nal.{bit, kind, unit_kind, is_unit_kind, form}
+use Rattle.vrx_h264.specs.Nal.{kind, unit_kind, is_unit_kind, form}
 use Rattle.vrx_h264.specs.Aggregate.{sized_fault, front_fault, unit_if, front, Units, units_with, units_within, units_of, left_fault, aggregate_fault}
 use Rattle.vrx_h264.specs.AggregateLaws.{SplitsSized, front_splits, units_of-some, units_of-none}
 use Rattle.vrx_h264.specs.Payload.{Fragment, begins, ends, Piece, Whole, Cut, cut_of, pieces_in, pieces, cut_fault, fault_in, fault, part_with, part_if, read_part}
@@ -24,15 +28,15 @@ pub is-unit_kind : (k : ℕ) → IsUnitKind k → is_unit_kind k ≡ true
 is-unit_kind k is = grind (arith, nat_tests, is.0, is.1)
 
 pub form-single : (k : ℕ) → IsUnitKind k → form k ≡ Single
-form-single k is = ap (λ b. if b then Single else if k == 24 then Aggregate else if k == 28 then Fragmented else Other) (is-unit_kind k is)
+form-single k is = ap (λ b. if b then Single else if k == STAP_A then Aggregate else if k == FU_A then Fragmented else Other) (is-unit_kind k is)
 
 single_is : (k : ℕ) → form k ≡ Single → IsUnitKind k
 single_is k is = (grind (arith, nat_tests), grind (arith, nat_tests))
 
-aggregate_is : (k : ℕ) → form k ≡ Aggregate → k ≡ 24
+aggregate_is : (k : ℕ) → form k ≡ Aggregate → k ≡ STAP_A
 aggregate_is k is = grind (arith, nat_tests)
 
-fragmented_is : (k : ℕ) → form k ≡ Fragmented → k ≡ 28
+fragmented_is : (k : ℕ) → form k ≡ Fragmented → k ≡ FU_A
 fragmented_is k is = grind (arith, nat_tests)
 
 -- ---- the unit at the front of an aggregate's octets
@@ -71,7 +75,7 @@ right_if at size octets none = record { fits = grind (arith, nat_tests); some = 
 sized_fault-right : (at size : ℕ) (octets : List ℕ) → Right size octets → sized_fault at size octets ≡ None
 sized_fault-right at size octets right = grind (arith, nat_tests, right.fits, right.some, right.unit)
 
--- the front of octets is a unit behind its size
+-- the front of octets is a unit after its size
 record IsFront (octets : List ℕ) (x : List ℕ × List ℕ) : Type 0 where
   spelled : octets ≡ sized x.0 ++ x.1
   unit : IsSizedUnit x.0
@@ -106,7 +110,7 @@ front_is (high ∷ low ∷ octets) are =
     (All-tail (λ octet. octet < 256) low octets behind)
     (right_if 0 size octets)
 
--- and a unit behind its size is the front
+-- and a unit after its size is the front
 unit_if-right : (fault : Option PartFault) (size : ℕ) (octets : List ℕ) → fault ≡ None → unit_if fault size octets ≡ Some (take size octets, drop size octets)
 unit_if-right fault size octets none = rw none refl
 
@@ -185,7 +189,7 @@ units-divide octets are =
     let s = splits_within (length octets) octets are in
     record { spelled = s.spelled; each = s.each; stops = front-stops (units_of octets).left (stops_within (length octets) octets (omega arith)) }
 
--- where something is wrong at one offset, it is at each
+-- if something is wrong at one offset, it is at each
 fault_anywhere : (at : ℕ) (octets : List ℕ) → front_fault at octets ≡ None → front_fault 0 octets ≡ None
 fault_anywhere at [] none = absurd cc
 fault_anywhere at (high ∷ []) none = absurd cc
@@ -203,7 +207,7 @@ whole_units len (o ∷ octets) (l ∷ left) empty stops none = absurd (stops (fa
 
 -- ---- payloads
 
-spelled_units : (head : ℕ) (octets : List ℕ) → kind head ≡ 24 → AreOctets octets → aggregate_fault octets ≡ None → IsAggregate (head ∷ octets) (map Whole (units_of octets).units)
+spelled_units : (head : ℕ) (octets : List ℕ) → kind head ≡ STAP_A → AreOctets octets → aggregate_fault octets ≡ None → IsAggregate (head ∷ octets) (map Whole (units_of octets).units)
 spelled_units head octets says are none =
     let d = units-divide octets are in
     let w = whole_units (length octets) octets (units_of octets).left (λ empty. ap (λ (x : List ℕ). (units_of x).left) empty ∙ ap (λ (x : Units). x.left) (units_of-none [] refl)) d.stops none in
@@ -225,10 +229,10 @@ both_if true false false f g none = absurd cc
 both_if false e true f g none = (refl, refl)
 both_if false e false f g none = absurd cc
 
-spelled_cut : (head : ℕ) (octets : List ℕ) → kind head ≡ 28 → cut_fault octets ≡ None → IsCut (head ∷ octets) (cut_of head octets)
+spelled_cut : (head : ℕ) (octets : List ℕ) → kind head ≡ FU_A → cut_fault octets ≡ None → IsCut (head ∷ octets) (cut_of head octets)
 spelled_cut head [] says none = absurd cc
 spelled_cut head (header ∷ octets) says none =
-    let parts = both_if (bit 128 header) (bit 64 header) (is_unit_kind (kind header)) (record { code = 16; at = 1 }) (record { code = 12; at = 1 }) none in
+    let parts = both_if (bit BIT_S header) (bit BIT_E header) (is_unit_kind (kind header)) (record { code = FU_BOTH; at = 1 }) (record { code = KIND; at = 1 }) none in
     record {
       fragment = record { indicator = head; header = header; octets = octets };
       spelled = refl;
@@ -268,7 +272,7 @@ some_sized : (units : List (List ℕ)) → units ≢ [] → left_fault (length (
 some_sized [] some = absurd (some refl)
 some_sized (unit ∷ units) some = ap (λ (x : List ℕ). left_fault (length x) x []) (flat_map-cons sized unit units)
 
-pub reads_units : (head : ℕ) (units : List (List ℕ)) → kind head ≡ 24 → units ≢ [] → AllByRecursion IsSizedUnit units → Reads (head ∷ flat_map sized units) (map Whole units)
+pub reads_units : (head : ℕ) (units : List (List ℕ)) → kind head ≡ STAP_A → units ≢ [] → AllByRecursion IsSizedUnit units → Reads (head ∷ flat_map sized units) (map Whole units)
 reads_units head units says some each =
     let octets = flat_map sized units in
     let are = units_of-sized units each in
@@ -276,11 +280,11 @@ reads_units head units says some each =
     (ap (λ (x : Units). left_fault (length octets) octets x.left) are ∙ some_sized units some)
     (ap (λ (x : Units). map Whole x.units) are)
 
-pub reads_cut : (f : Fragment) → kind f.indicator ≡ 28 → IsUnitKind (kind f.header) → (begins f && ends f) ≡ false → Reads (f.indicator ∷ f.header ∷ f.octets) (Cut f ∷ [])
+pub reads_cut : (f : Fragment) → kind f.indicator ≡ FU_A → IsUnitKind (kind f.header) → (begins f && ends f) ≡ false → Reads (f.indicator ∷ f.header ∷ f.octets) (Cut f ∷ [])
 reads_cut f says unit not_both =
     reads_by Fragmented f.indicator (f.header ∷ f.octets) (Cut f ∷ []) (ap form says)
-    (ap (λ b. if b then Some (let e : PartFault = record { code = 16; at = 1 } in e) else if is_unit_kind (kind f.header) then None else Some (record { code = 12; at = 1 })) not_both
-    ∙ ap (λ b. if b then None else Some (let e : PartFault = record { code = 12; at = 1 } in e)) (is-unit_kind (kind f.header) unit))
+    (ap (λ b. if b then Some (let e : PartFault = record { code = FU_BOTH; at = 1 } in e) else if is_unit_kind (kind f.header) then None else Some (record { code = KIND; at = 1 })) not_both
+    ∙ ap (λ b. if b then None else Some (let e : PartFault = record { code = KIND; at = 1 } in e)) (is-unit_kind (kind f.header) unit))
     refl
 
 reads_as : (payload octets : List ℕ) (carried found : List Piece) → payload ≡ octets → carried ≡ found → Reads octets found → Reads payload carried

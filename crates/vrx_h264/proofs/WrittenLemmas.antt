@@ -8,7 +8,10 @@ use Rattle.std.proofs.lemmas.List.Concat.{flat_map-cons}
 use Rattle.std.proofs.lemmas.List.Folds.{Any-from_list_any}
 use Rattle.std.proofs.lemmas.List.Sums.{sum_by-cons}
 use Rattle.vrx_codec.specs.Part.{Part}
-use Rattle.vrx_h264.specs.Nal.{bit, kind}
+use Rattle.vrx_codec.specs.Octet.{bit}
+use Rattle.vrx_h264.specs.declared.bits.TheConstants.{BIT_S, BIT_E}
+use Rattle.vrx_h264.specs.declared.types.TheConstants.{STAP_A}
+use Rattle.vrx_h264.specs.Nal.{kind}
 use Rattle.vrx_h264.specs.Payload.{Fragment, begins, ends, first_octet, Piece, Whole, Cut, pieces, part_with, read_part}
 use Rattle.vrx_h264.specs.IsPayload.{IsUnit, IsSizedUnit, IsAggregate}
 use Rattle.vrx_h264.specs.AccessUnit.{behind_code, no_end, no_start, mixed, Joined, with_unit, with_rest, units_from, bytes_of, carried}
@@ -35,13 +38,13 @@ all_sized (unit ∷ units) each none =
     let parts = or_parts (nat_lt 65535 (length unit)) (list_any (λ unit. nat_lt 65535 (length unit)) units) none in
     ((each.0, not_long (length unit) parts.0), all_sized units each.1 parts.1)
 
-kind-header_octet : (f : Bool) (nri : ℕ) → kind (header_octet f nri 24) ≡ 24
+kind-header_octet : (f : Bool) (nri : ℕ) → kind (header_octet f nri STAP_A) ≡ STAP_A
 kind-header_octet true nri = omega arith
 kind-header_octet false nri = omega arith
 
 pub aggregate_carries : (units : List (List ℕ)) → units ≢ [] → AllByRecursion IsSizedUnit units → IsAggregate (written_units units) (map Whole units)
 aggregate_carries units some each = record {
-  head = header_octet (have_f units) (greatest_nri units) 24;
+  head = header_octet (have_f units) (greatest_nri units) STAP_A;
   units = units;
   spelled = refl;
   says = kind-header_octet (have_f units) (greatest_nri units);
@@ -51,7 +54,7 @@ aggregate_carries units some each = record {
 }
 
 pub aggregate-reads : (units : List (List ℕ)) → units ≢ [] → AllByRecursion IsSizedUnit units → Reads (written_units units) (map Whole units)
-aggregate-reads units some each = reads_units (header_octet (have_f units) (greatest_nri units) 24) units (kind-header_octet (have_f units) (greatest_nri units)) some each
+aggregate-reads units some each = reads_units (header_octet (have_f units) (greatest_nri units) STAP_A) units (kind-header_octet (have_f units) (greatest_nri units)) some each
 
 pub written_again : (units : List (List ℕ)) → units ≢ [] → AllByRecursion IsSizedUnit units → (payload : List ℕ) → payload ≡ written_units units → read_part payload ≡ Ok (part_with payload (map Whole units))
 written_again units some each payload is =
@@ -78,19 +81,19 @@ aggregate_joined units some each =
 
 -- ---- fragments
 
-says_begins : (b e : Bool) (k : ℕ) → k < 32 → bit 128 ((if b then 128 else 0) + (if e then 64 else 0) + k) ≡ b
-says_begins true true k fits = eq-eqb ((128 + 64 + k) / 128 % 2) 1 (omega arith)
-says_begins true false k fits = eq-eqb ((128 + 0 + k) / 128 % 2) 1 (omega arith)
-says_begins false true k fits = ne_eqb ((0 + 64 + k) / 128 % 2) 1 (omega arith)
-says_begins false false k fits = ne_eqb ((0 + 0 + k) / 128 % 2) 1 (omega arith)
+says_begins : (b e : Bool) (k : ℕ) → k < 32 → bit BIT_S ((if b then BIT_S else 0) + (if e then BIT_E else 0) + k) ≡ b
+says_begins true true k fits = eq-eqb ((BIT_S + BIT_E + k) / BIT_S % 2) 1 (omega arith)
+says_begins true false k fits = eq-eqb ((BIT_S + 0 + k) / BIT_S % 2) 1 (omega arith)
+says_begins false true k fits = ne_eqb ((0 + BIT_E + k) / BIT_S % 2) 1 (omega arith)
+says_begins false false k fits = ne_eqb ((0 + 0 + k) / BIT_S % 2) 1 (omega arith)
 
-says_ends : (b e : Bool) (k : ℕ) → k < 32 → bit 64 ((if b then 128 else 0) + (if e then 64 else 0) + k) ≡ e
-says_ends true true k fits = eq-eqb ((128 + 64 + k) / 64 % 2) 1 (omega arith)
-says_ends true false k fits = ne_eqb ((128 + 0 + k) / 64 % 2) 1 (omega arith)
-says_ends false true k fits = eq-eqb ((0 + 64 + k) / 64 % 2) 1 (omega arith)
-says_ends false false k fits = ne_eqb ((0 + 0 + k) / 64 % 2) 1 (omega arith)
+says_ends : (b e : Bool) (k : ℕ) → k < 32 → bit BIT_E ((if b then BIT_S else 0) + (if e then BIT_E else 0) + k) ≡ e
+says_ends true true k fits = eq-eqb ((BIT_S + BIT_E + k) / BIT_E % 2) 1 (omega arith)
+says_ends true false k fits = ne_eqb ((BIT_S + 0 + k) / BIT_E % 2) 1 (omega arith)
+says_ends false true k fits = eq-eqb ((0 + BIT_E + k) / BIT_E % 2) 1 (omega arith)
+says_ends false false k fits = ne_eqb ((0 + 0 + k) / BIT_E % 2) 1 (omega arith)
 
-says_kind : (b e : Bool) (k : ℕ) → k < 32 → kind ((if b then 128 else 0) + (if e then 64 else 0) + k) ≡ k
+says_kind : (b e : Bool) (k : ℕ) → k < 32 → kind ((if b then BIT_S else 0) + (if e then BIT_E else 0) + k) ≡ k
 says_kind true true k fits = omega arith
 says_kind true false k fits = omega arith
 says_kind false true k fits = omega arith
@@ -139,7 +142,7 @@ later_cut f k last later begin same end =
 all_at : (unit : List ℕ) (at len : ℕ) → at + len ≡ length unit → take len (drop at unit) ≡ drop at unit
 all_at unit at len ended = take_all len (drop at unit) (omega (arith, length-drop at unit))
 
--- the fragments behind the first give the unit's octets from there on
+-- the fragments after the first give the unit's octets from there on
 later_joined : (unit : List ℕ) (k : ℕ) → k ≡ kind (slice_index unit 0) → (at len : ℕ) (lens : List ℕ) → 1 < at → AllByRecursion (λ len. 0 < len) lens → at + len + sum lens ≡ length unit → units_from (Some k) (fragments unit at (len ∷ lens)) ≡ Ok (record { rest = drop at unit; units = [] })
 later_joined unit k same at len [] later some ended =
     let end : at + len ≡ length unit = omega arith in

@@ -1,37 +1,38 @@
 -- The frame that parts join to: the units of one access unit, in the order of the parts (RFC 6184 5.1, 5.8), each
--- behind a start code as in H.264 annex B.
+-- after a start code as in H.264 annex B.
 use Rattle.std.specs.Prelude.{ℕ, ◌==◌, if◌then◌else◌, List, [], ◌∷◌, ◌++◌, Option, None, Some, Result, Ok, Err}
 use Rattle.std.specs.List.{flat_map}
 use Rattle.vrx_codec.specs.Part.{Part}
 use Rattle.vrx_codec.specs.Meaning.{Meaning}
 use Rattle.vrx_codec.specs.declared.fault.JoinFault.{JoinFault}
+use Rattle.vrx_h264.specs.declared.faults.TheConstants.{FU_NO_START, FU_NO_END, FU_MIXED}
 use Rattle.vrx_h264.specs.Nal.{kind}
 use Rattle.vrx_h264.specs.Payload.{begins, ends, first_octet, Piece, Whole, Cut, pieces, read_part}
 
--- a unit behind its start code (H.264 B.1.1)
+-- a unit after its start code (H.264 B.1.1)
 abbrev pub start_code : List ℕ
 start_code = 0 ∷ 0 ∷ 0 ∷ 1 ∷ []
 
 abbrev pub behind_code : List ℕ → List ℕ
 behind_code unit = start_code ++ unit
 
--- why pieces don't join: 21 where a later fragment comes while no unit is begun, 22 where the fragments of a unit
--- don't end, 23 where a later fragment is of a unit of another type
+-- why pieces don't join: a later fragment comes while no unit is begun, the fragments of a unit don't end, or a later
+-- fragment is of a unit of another type
 abbrev pub no_start : JoinFault
-no_start = record { code = 21 }
+no_start = record { code = FU_NO_START }
 
 abbrev pub no_end : JoinFault
-no_end = record { code = 22 }
+no_end = record { code = FU_NO_END }
 
 abbrev pub mixed : JoinFault
-mixed = record { code = 23 }
+mixed = record { code = FU_MIXED }
 
--- the octets behind those of the unit that is begun, up to its end, and the whole units behind it
+-- the octets after those of the unit that is begun, up to its end, and the whole units after it
 pub record Joined : Type 0 where
   pub rest : List ℕ
   pub units : List (List ℕ)
 
--- a unit more, and what is joined behind it
+-- a unit more, and what is joined after it
 abbrev pub with_unit : List ℕ → Result Joined JoinFault → Result Joined JoinFault
 with_unit unit (Ok later) = Ok (record { rest = []; units = (unit ++ later.rest) ∷ later.units })
 with_unit unit (Err fault) = Err fault
@@ -56,7 +57,7 @@ units_from (Some begun) (Cut f ∷ later) =
     else if begun == kind f.header then with_rest f.octets (units_from (if ends f then None else Some begun) later)
     else Err mixed
 
--- the bytes of units, each behind a start code
+-- the bytes of units, each after a start code
 abbrev pub bytes_of : Result Joined JoinFault → Result (List ℕ) JoinFault
 bytes_of (Ok joined) = Ok (joined.rest ++ flat_map behind_code joined.units)
 bytes_of (Err fault) = Err fault

@@ -1,7 +1,7 @@
 -- The aggregate STAP-A: several units in one payload (RFC 6184 5.7.1).
 --
 -- +-+-+-+-+-+-+-+-+
--- |F|NRI|Type = 24|  behind this octet, one or more of
+-- |F|NRI|Type = 24|  after this octet, one or more of
 -- +-+-+-+-+-+-+-+-+-+-+-+-+-+-+-+-+-+-+-+-+-+-+-+-+
 -- |             size              |  a unit of    :
 -- +-+-+-+-+-+-+-+-+-+-+-+-+-+-+-+-+  size octets  :
@@ -9,40 +9,41 @@
 -- +-+-+-+-+-+-+-+-+-+-+-+-+-+-+-+-+-+-+-+-+-+-+-+-+
 use Rattle.std.specs.Prelude.{ℕ, zero, suc, ◌+◌, ◌*◌, ◌-◌, ◌==◌, nat_lt, if◌then◌else◌, List, [], ◌∷◌, length, take, drop, Option, None, Some}
 use Rattle.vrx_codec.specs.declared.fault.PartFault.{PartFault}
+use Rattle.vrx_h264.specs.declared.faults.TheConstants.{KIND, STAP_PAST_END, STAP_ZERO}
 use Rattle.vrx_h264.specs.Nal.{unit_kind, is_unit_kind}
 
--- what is wrong with a unit of this size at the front of octets, whose size stands at an offset: 13 where the unit
--- runs past the end, 14 where its size is 0, 12 where it is no unit as such
+-- what is wrong with a unit of this size at the front of octets, whose size stands at an offset: the unit runs past
+-- the end, its size is 0, or it is no unit as such
 abbrev pub sized_fault : ℕ → ℕ → List ℕ → Option PartFault
 sized_fault at size octets =
-    if nat_lt (length octets) size then Some (record { code = 13; at = at })
-    else if size == 0 then Some (record { code = 14; at = at })
+    if nat_lt (length octets) size then Some (record { code = STAP_PAST_END; at = at })
+    else if size == 0 then Some (record { code = STAP_ZERO; at = at })
     else if is_unit_kind (unit_kind octets) then None
-    else Some (record { code = 12; at = at + 2 })
+    else Some (record { code = KIND; at = at + 2 })
 
--- what is wrong with the size at the front of octets and the unit behind it: 13 too where the size runs past the end
+-- what is wrong with the size at the front of octets and the unit after it: the size itself may run past the end
 abbrev pub front_fault : ℕ → List ℕ → Option PartFault
-front_fault at [] = Some (record { code = 13; at = at })
-front_fault at (high ∷ []) = Some (record { code = 13; at = at })
+front_fault at [] = Some (record { code = STAP_PAST_END; at = at })
+front_fault at (high ∷ []) = Some (record { code = STAP_PAST_END; at = at })
 front_fault at (high ∷ low ∷ octets) = sized_fault at (high * 256 + low) octets
 
--- the unit, and the octets behind it, where nothing was wrong
+-- the unit, and the octets after it, if nothing was wrong
 abbrev pub unit_if : Option PartFault → ℕ → List ℕ → Option (List ℕ × List ℕ)
 unit_if None size octets = Some (take size octets, drop size octets)
 unit_if (Some fault) size octets = None
 
--- the unit at the front of octets, behind its size, and the octets behind it
+-- the unit at the front of octets, after its size, and the octets after it
 abbrev pub front : List ℕ → Option (List ℕ × List ℕ)
 front [] = None
 front (high ∷ []) = None
 front (high ∷ low ∷ octets) = unit_if (sized_fault 0 (high * 256 + low) octets) (high * 256 + low) octets
 
--- units, and the octets behind them
+-- units, and the octets after them
 pub record Units : Type 0 where
   pub units : List (List ℕ)
   pub left : List ℕ
 
--- the unit at the front, and those of the octets behind it
+-- the unit at the front, and those of the octets after it
 abbrev pub units_with : List ℕ → Option (List ℕ × List ℕ) → (List ℕ → Units) → Units
 units_with octets None later = record { units = []; left = octets }
 units_with octets (Some (unit, behind)) later = record { units = unit ∷ (later behind).units; left = (later behind).left }
@@ -56,7 +57,7 @@ units_within (suc most) octets = units_with octets (front octets) (units_within 
 unfoldable pub units_of : List ℕ → Units
 units_of octets = units_within (length octets) octets
 
--- The fault of the octets behind an aggregate's first, told by offsets in the payload. Behind the units that are
+-- The fault of the octets after an aggregate's first, told by offsets in the payload. After the units that are
 -- right nothing is left. Else what is left is wrong, and so is an aggregate without a unit.
 abbrev pub left_fault : ℕ → List ℕ → List ℕ → Option PartFault
 left_fault len (octet ∷ octets) [] = None

@@ -1,14 +1,14 @@
--- How the units of an aggregate go on, one behind another. These are proofs: a reader need believe none of this.
+-- How the units of an aggregate go on, one after another. These are proofs: a reader need believe none of this.
 use Rattle.std.proofs.Common.{◌≡◌, ℕ, zero, suc, ◌+◌, ◌*◌, ◌≤◌, List, [], ◌∷◌, length, Option, None, Some, IfSome, refl, sym, ap, ◌∙◌, arith, length-take, length-drop}
 use Rattle.std.proofs.lemmas.Bool.Decides.{nat_tests}
 use Rattle.vrx_codec.specs.declared.fault.PartFault.{PartFault}
 use Rattle.vrx_h264.specs.Aggregate.{sized_fault, unit_if, front, Units, units_with, units_within, units_of}
 
--- a unit, and the octets behind it, of so many octets
+-- a unit, and the octets after it, of so many octets
 abbrev pub Splits : ℕ → List ℕ × List ℕ → Type 0
 Splits len x = length x.0 + length x.1 ≡ len
 
--- where nothing is wrong the unit fits
+-- if nothing is wrong the unit fits
 pub sized_fits : (at size : ℕ) (octets : List ℕ) → sized_fault at size octets ≡ None → size ≤ length octets
 sized_fits at size octets none = grind (arith, nat_tests)
 
@@ -16,7 +16,7 @@ unit_splits : (fault : Option PartFault) (size : ℕ) (octets : List ℕ) → (f
 unit_splits (Some fault) size octets fits = tt
 unit_splits None size octets fits = omega (arith, fits refl, length-take size octets, length-drop size octets)
 
--- a unit and what is behind it are two octets fewer than all
+-- a unit and what is after it are two octets fewer than all
 abbrev pub SplitsSized : ℕ → List ℕ × List ℕ → Type 0
 SplitsSized len x = length x.0 + length x.1 + 2 ≡ len
 
@@ -55,7 +55,7 @@ enough (suc n) (suc m) octets fits_n fits_m =
     (shorter m octets fits_m (front octets) (front_splits octets))
     (λ b b_n b_m. enough n m b b_n b_m)
 
--- the units of octets are the one at the front and those of the octets behind it
+-- the units of octets are the one at the front and those of the octets after it
 pub units_of-next : (octets : List ℕ) → units_of octets ≡ units_with octets (front octets) units_of
 unfolding units_of
 units_of-next [] = refl

@@ -1,5 +1,5 @@
--- The units of an access unit as a relation: which pieces carry which units, one unit behind another (RFC 6184 5.6 to
--- 5.8), and what stands where pieces carry none.
+-- The units of an access unit as a relation: which pieces carry which units, one unit after another (RFC 6184 5.6 to
+-- 5.8), and what stands if pieces carry none.
 use Rattle.std.specs.Prelude.{◌≡◌, ◌≢◌, ℕ, Bool, true, false, List, [], ◌∷◌, ◌++◌, map, ◌⊎◌}
 use Rattle.std.specs.List.{flat_map, AllByRecursion}
 use Rattle.vrx_h264.specs.Nal.{kind}
@@ -17,7 +17,7 @@ pub record IsBegun (carried : List Piece) (first : Fragment) (inner : List Fragm
   pub begun : begins first ≡ true
   pub inside : AllByRecursion (IsLater (kind first.header) false) inner
 
--- a unit in fragments (RFC 6184 5.8): one that begins it, some inside, and one that ends it. Behind its first octet
+-- a unit in fragments (RFC 6184 5.8): one that begins it, some inside, and one that ends it. After its first octet
 -- are theirs
 pub record IsCutUp (carried : List Piece) (unit : List ℕ) : Type 0 where
   pub front : List Piece
@@ -33,13 +33,13 @@ pub record IsCutUp (carried : List Piece) (unit : List ℕ) : Type 0 where
 abbrev pub Carry : List Piece → List ℕ → Type 0
 Carry carried unit = (carried ≡ Whole unit ∷ []) ⊎ IsCutUp carried unit
 
--- the pieces carry these units, one behind another
+-- the pieces carry these units, one after another
 abbrev pub AreUnits : List Piece → List (List ℕ) → Type 0
 AreUnits carried [] = carried ≡ []
 AreUnits carried (unit ∷ units) =
     (front behind : List Piece) × (carried ≡ front ++ behind) × Carry front unit × AreUnits behind units
 
--- behind whole units a fragment comes that doesn't begin one
+-- after whole units a fragment comes that doesn't begin one
 pub record LacksStart (carried : List Piece) : Type 0 where
   pub units : List (List ℕ)
   pub before : List Piece
@@ -54,7 +54,7 @@ abbrev pub NoLater : List Piece → Type 0
 NoLater [] = Unit {0}
 NoLater (piece ∷ behind) = is_front piece ≡ true
 
--- behind whole units one is begun, and what comes then isn't a later fragment
+-- after whole units one is begun, and what comes then isn't a later fragment
 pub record LacksEnd (carried : List Piece) : Type 0 where
   pub units : List (List ℕ)
   pub before : List Piece
@@ -67,7 +67,7 @@ pub record LacksEnd (carried : List Piece) : Type 0 where
   pub is_begun : IsBegun begun first inner
   pub none : NoLater behind
 
--- behind whole units one is begun, and then a later fragment of another type comes
+-- after whole units one is begun, and then a later fragment of another type comes
 pub record IsMixed (carried : List Piece) : Type 0 where
   pub units : List (List ℕ)
   pub before : List Piece

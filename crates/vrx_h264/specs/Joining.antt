@@ -8,7 +8,7 @@ use Rattle.vrx_h264.specs.Nal.{kind}
 use Rattle.vrx_h264.specs.Payload.{begins, ends, first_octet, Piece, Whole, Cut, pieces}
 use Rattle.vrx_h264.specs.AccessUnit.{behind_code, no_start, no_end, mixed}
 
--- the first octet of the unit that is begun behind a piece, where one is: from that before the piece
+-- the first octet of the unit that is begun after a piece, if one is: from that before the piece
 abbrev pub begun_behind : Option ℕ → Piece → Result (Option ℕ) JoinFault
 begun_behind None (Whole unit) = Ok None
 begun_behind (Some begun) (Whole unit) = Err no_end
@@ -18,17 +18,17 @@ begun_behind (Some begun) (Cut f) =
     else if kind begun == kind f.header then Ok (if ends f then None else Some begun)
     else Err mixed
 
--- what comes next, where there was no fault
+-- what comes next, if there was no fault
 abbrev pub begun_then : Result (Option ℕ) JoinFault → (Option ℕ → Result (Option ℕ) JoinFault) → Result (Option ℕ) JoinFault
 begun_then (Ok begun) next = next begun
 begun_then (Err fault) next = Err fault
 
--- the same behind pieces
+-- the same after pieces
 abbrev pub begun_behind_all : Option ℕ → List Piece → Result (Option ℕ) JoinFault
 begun_behind_all begun [] = Ok begun
 begun_behind_all begun (piece ∷ later) = begun_then (begun_behind begun piece) (λ next. begun_behind_all next later)
 
--- the octets that a piece adds: its unit behind a start code, or the octets of a fragment
+-- the octets that a piece adds: its unit after a start code, or the octets of a fragment
 abbrev pub added_by : Piece → List ℕ
 added_by (Whole unit) = behind_code unit
 added_by (Cut f) = if begins f then behind_code (first_octet f ∷ f.octets) else f.octets
@@ -36,7 +36,7 @@ added_by (Cut f) = if begins f then behind_code (first_octet f ∷ f.octets) els
 abbrev pub added : List ℕ → List ℕ
 added payload = flat_map added_by (pieces payload)
 
--- the state with so many octets, where there was no fault
+-- the state with so many octets, if there was no fault
 abbrev pub state_with : ℕ → Result (Option ℕ) JoinFault → Result Join JoinFault
 state_with octets (Ok begun) = Ok (record { unit = begun; octets = octets })
 state_with octets (Err fault) = Err fault

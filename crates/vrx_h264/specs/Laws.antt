@@ -21,7 +21,7 @@ use Rattle.vrx_h264.specs.Joining.{begun_behind, begun_then, begun_behind_all, a
 
 -- ---- joining part by part is joining whole units
 
--- what comes next in bytes, where there was no fault
+-- what comes next in bytes, if there was no fault
 abbrev bytes_then : Result (Option ℕ) JoinFault → (Option ℕ → Result (List ℕ) JoinFault) → Result (List ℕ) JoinFault
 bytes_then (Ok begun) next = next begun
 bytes_then (Err fault) next = Err fault
@@ -126,7 +126,7 @@ pub h264_counted : (begun : Option ℕ) (octets : ℕ) → IfOk (end_of begun oc
 h264_counted None octets = refl
 h264_counted (Some begun) octets = tt
 
--- units with their sizes are the octets of an aggregate, so behind start codes they are at most five times as many
+-- units with their sizes are the octets of an aggregate, so after start codes they are at most five times as many
 few-with : (most len : ℕ) (octets : List ℕ) (o : Option (List ℕ × List ℕ)) (later : List ℕ → Units) → IfSome o (SplitsSized len) → ((b : List ℕ) → length (flat_map added_by (map Whole (later b).units)) ≤ 5 * length b) → length (flat_map added_by (map Whole (units_with octets o later).units)) ≤ 5 * len
 few-with most len octets None later is fits = omega arith
 few-with most len octets (Some (u, b)) later is fits =

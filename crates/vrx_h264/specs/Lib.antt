@@ -6,5 +6,7 @@ pub mod IsPayload
 pub mod Joining
 pub mod Laws
 pub mod Nal
+pub mod OneAccessUnit
+pub mod OnePayload
 pub mod Payload
 pub mod Writing

@@ -4,13 +4,10 @@
 -- +-+-+-+-+-+-+-+-+
 -- |F|NRI|  Type   |
 -- +-+-+-+-+-+-+-+-+
-use Rattle.std.specs.Prelude.{ℕ, ◌/◌, ◌%◌, Bool, ◌&&◌, ◌==◌, nat_lt, if◌then◌else◌, List, slice_index}
+use Rattle.std.specs.Prelude.{ℕ, ◌%◌, Bool, ◌&&◌, ◌==◌, nat_lt, nat_le, if◌then◌else◌, List, slice_index}
+use Rattle.vrx_h264.specs.declared.types.TheConstants.{LAST_UNIT, IDR, SEQUENCE, STAP_A, FU_A}
 use Rattle.vrx_h264.specs.declared.nal.Form.{Form}
 use Rattle.vrx_h264.specs.declared.nal.Form.TheVariants.{Single, Aggregate, Fragmented, Other}
-
--- the bit of an octet that has this value
-abbrev pub bit : ℕ → ℕ → Bool
-bit value octet = (octet / value) % 2 == 1
 
 -- the type that an octet says
 abbrev pub kind : ℕ → ℕ
@@ -22,20 +19,20 @@ unit_kind unit = kind (slice_index unit 0)
 
 -- a NAL unit as such has a type of 1 to 23 (RFC 6184 5.2, table 1)
 abbrev pub is_unit_kind : ℕ → Bool
-is_unit_kind kind = nat_lt 0 kind && nat_lt kind 24
+is_unit_kind kind = nat_lt 0 kind && nat_le kind LAST_UNIT
 
 -- an IDR slice, which a keyframe is made of, and a sequence parameter set
 abbrev pub is_idr : ℕ → Bool
-is_idr kind = kind == 5
+is_idr kind = kind == IDR
 
 abbrev pub is_sequence : ℕ → Bool
-is_sequence kind = kind == 7
+is_sequence kind = kind == SEQUENCE
 
 -- how a payload with this type in its first octet carries units (RFC 6184 5.2, table 1): one, several, or a
 -- fragment of one
 abbrev pub form : ℕ → Form
 form kind =
     if is_unit_kind kind then Single
-    else if kind == 24 then Aggregate
-    else if kind == 28 then Fragmented
+    else if kind == STAP_A then Aggregate
+    else if kind == FU_A then Fragmented
     else Other

@@ -1,15 +1,18 @@
 -- The payload of an RTP packet of H.264 (RFC 6184 5.2 to 5.8), and the part of a frame that it is.
 use Rattle.std.specs.Prelude.{ℕ, ◌+◌, ◌*◌, ◌/◌, Bool, true, false, ◌&&◌, if◌then◌else◌, List, [], ◌∷◌, map, Option, None, Some, Result, Ok, Err}
 use Rattle.std.specs.List.{list_any}
+use Rattle.vrx_codec.specs.Octet.{bit}
 use Rattle.vrx_codec.specs.Part.{Part}
 use Rattle.vrx_codec.specs.declared.part.Start.TheVariants.{Yes, ByNeighbour}
 use Rattle.vrx_codec.specs.declared.fault.PartFault.{PartFault}
+use Rattle.vrx_h264.specs.declared.bits.TheConstants.{BIT_S, BIT_E}
+use Rattle.vrx_h264.specs.declared.faults.TheConstants.{EMPTY, KIND, FU_SHORT, FU_BOTH}
 use Rattle.vrx_h264.specs.declared.nal.Form.{Form}
 use Rattle.vrx_h264.specs.declared.nal.Form.TheVariants.{Single, Aggregate, Fragmented, Other}
-use Rattle.vrx_h264.specs.Nal.{bit, kind, unit_kind, is_unit_kind, is_idr, is_sequence, form}
+use Rattle.vrx_h264.specs.Nal.{kind, unit_kind, is_unit_kind, is_idr, is_sequence, form}
 use Rattle.vrx_h264.specs.Aggregate.{units_of, aggregate_fault}
 
--- A fragment FU-A of a unit (RFC 6184 5.8): its two octets, and octets of the unit, which begin behind the unit's
+-- A fragment FU-A of a unit (RFC 6184 5.8): its two octets, and octets of the unit, which begin after the unit's
 -- first.
 --
 -- +---------------+---------------+
@@ -24,10 +27,10 @@ pub record Fragment : Type 0 where
 
 -- S: the unit begins here; E: it ends here
 abbrev pub begins : Fragment → Bool
-begins f = bit 128 f.header
+begins f = bit BIT_S f.header
 
 abbrev pub ends : Fragment → Bool
-ends f = bit 64 f.header
+ends f = bit BIT_E f.header
 
 -- the unit's first octet: F and NRI of the indicator, and the type of the header
 abbrev pub first_octet : Fragment → ℕ
@@ -48,12 +51,12 @@ abbrev pub is_front : Piece → Bool
 is_front (Whole unit) = true
 is_front (Cut f) = begins f
 
--- the fragment behind an indicator
+-- the fragment after an indicator
 abbrev pub cut_of : ℕ → List ℕ → List Piece
 cut_of indicator [] = []
 cut_of indicator (header ∷ octets) = Cut (record { indicator = indicator; header = header; octets = octets }) ∷ []
 
--- what a payload with this first octet and these behind it carries
+-- what a payload with this first octet and these after it carries
 abbrev pub pieces_in : Form → ℕ → List ℕ → List Piece
 pieces_in Single head octets = Whole (head ∷ octets) ∷ []
 pieces_in Aggregate head octets = map Whole (units_of octets).units
@@ -64,25 +67,25 @@ abbrev pub pieces : List ℕ → List Piece
 pieces [] = []
 pieces (head ∷ octets) = pieces_in (form (kind head)) head octets
 
--- what is wrong with the octets behind an indicator: 15 where there is no header, 16 where it says both S and E, 12
--- where its type isn't that of a unit as such
+-- what is wrong with the octets after an indicator: there is no header, it says both S and E, or its type isn't that
+-- of a unit as such
 abbrev pub cut_fault : List ℕ → Option PartFault
-cut_fault [] = Some (record { code = 15; at = 1 })
+cut_fault [] = Some (record { code = FU_SHORT; at = 1 })
 cut_fault (header ∷ octets) =
-    if bit 128 header && bit 64 header then Some (record { code = 16; at = 1 })
+    if bit BIT_S header && bit BIT_E header then Some (record { code = FU_BOTH; at = 1 })
     else if is_unit_kind (kind header) then None
-    else Some (record { code = 12; at = 1 })
+    else Some (record { code = KIND; at = 1 })
 
--- what is wrong with a payload, by its form: 12 at its first octet where that says no form
+-- what is wrong with a payload, by its form: its first octet may say none
 abbrev pub fault_in : Form → List ℕ → Option PartFault
 fault_in Single octets = None
 fault_in Aggregate octets = aggregate_fault octets
 fault_in Fragmented octets = cut_fault octets
-fault_in Other octets = Some (record { code = 12; at = 0 })
+fault_in Other octets = Some (record { code = KIND; at = 0 })
 
--- what is wrong with a payload: 11 where it is empty
+-- what is wrong with a payload: it may be empty
 abbrev pub fault : List ℕ → Option PartFault
-fault [] = Some (record { code = 11; at = 0 })
+fault [] = Some (record { code = EMPTY; at = 0 })
 fault (head ∷ octets) = fault_in (form (kind head)) octets
 
 -- whether pieces begin with the beginning of a sequence parameter set
@@ -104,7 +107,7 @@ part_with payload carried = record {
   body = payload;
 }
 
--- the part that a payload is, where nothing is wrong
+-- the part that a payload is, if nothing is wrong
 abbrev pub part_if : List ℕ → Option PartFault → Result Part PartFault
 part_if payload (Some fault) = Err fault
 part_if payload None = Ok (part_with payload (pieces payload))

@@ -5,17 +5,10 @@ ghost use Rattle.std.specs.Option.{option_map};
 ghost use Rattle.vrx_h264.specs.Aggregate.{sized_fault as sized_fault_of, front_fault as front_fault_of, front as front_of, units_of, aggregate_fault as aggregate_fault_of};
 ghost use Rattle.vrx_h264.specs.Payload.{Whole, hold_idr, begin_sequence};
 
-use crate::nal::{IDR, SEQUENCE, is_unit_kind, unit_kind};
+use crate::faults::{KIND, STAP_PAST_END, STAP_ZERO};
+use crate::nal::{is_unit_kind, unit_kind};
+use crate::types::{IDR, SEQUENCE};
 use vrx_codec::PartFault;
-
-/// The fault of a unit or a fragment whose type isn't that of a unit as such.
-pub(crate) const KIND: u8 = 12;
-
-/// The fault of a size or a unit that runs past the end.
-const PAST_END: u8 = 13;
-
-/// The fault of a size of 0.
-const ZERO: u8 = 14;
 
 /// What is wrong with a unit of `size` octets at the front, whose size stands at `at`.
 fn sized_fault(at: usize, size: usize, rest: &[u8]) -> Option<PartFault>
@@ -23,9 +16,15 @@ fn sized_fault(at: usize, size: usize, rest: &[u8]) -> Option<PartFault>
     ensures { result ≡ sized_fault_of at size rest.now }
 {
     if rest.len() < size {
-        Some(PartFault { code: PAST_END, at })
+        Some(PartFault {
+            code: STAP_PAST_END,
+            at,
+        })
     } else if size == 0 {
-        Some(PartFault { code: ZERO, at })
+        Some(PartFault {
+            code: STAP_ZERO,
+            at,
+        })
     } else if is_unit_kind(unit_kind(rest)) {
         None
     } else {
@@ -36,7 +35,7 @@ fn sized_fault(at: usize, size: usize, rest: &[u8]) -> Option<PartFault>
     }
 }
 
-/// What is wrong with the size at the front, which stands at `at`, and the unit behind it.
+/// What is wrong with the size at the front, which stands at `at`, and the unit after it.
 fn front_fault(at: usize, rest: &[u8]) -> Option<PartFault>
     requires { at + 2 < 2 ^ 64 }
     ensures { result ≡ front_fault_of at rest.now }
@@ -45,11 +44,14 @@ fn front_fault(at: usize, rest: &[u8]) -> Option<PartFault>
         [high, low, rest @ ..] => {
             sized_fault(at, usize::from(*high) * 256 + usize::from(*low), rest)
         }
-        _ => Some(PartFault { code: PAST_END, at }),
+        _ => Some(PartFault {
+            code: STAP_PAST_END,
+            at,
+        }),
     }
 }
 
-/// The unit at the front, behind its size, and the octets behind it.
+/// The unit at the front, after its size, and the octets after it.
 pub(crate) fn front(rest: &[u8]) -> Option<(&[u8], &[u8])>
     ensures front { option_map (λ x. (x.0.now, x.1.now)) result ≡ front_of rest.now }
     ensures shorter { IfSome result (λ x. length x.0.now + length x.1.now + 2 ≡ length rest.now) }
@@ -64,7 +66,7 @@ pub(crate) fn front(rest: &[u8]) -> Option<(&[u8], &[u8])>
     }
 }
 
-/// The octets behind the units.
+/// The octets after the units.
 fn left(octets: &[u8]) -> &[u8]
     ensures left { result.now ≡ (units_of octets.now).left }
     ensures fits { length result.now ≤ length octets.now }
@@ -76,7 +78,7 @@ fn left(octets: &[u8]) -> &[u8]
     rest
 }
 
-/// What is wrong with the octets behind an aggregate's first.
+/// What is wrong with the octets after an aggregate's first.
 pub(crate) fn aggregate_fault(octets: &[u8]) -> Option<PartFault>
     ensures { result ≡ aggregate_fault_of octets.now }
 {

@@ -8,8 +8,10 @@ ghost use Rattle.vrx_h264.specs.AccessUnit.{behind_code};
 ghost use Rattle.vrx_h264.specs.Joining.{added_by, added as added_of};
 
 use crate::aggregate::front;
+use crate::bits::BIT_S;
 use crate::joining::{START_CODE, first_octet};
-use crate::nal::{Form, bit, form_of, kind};
+use crate::nal::{Form, form_of, kind};
+use vrx_codec::bit;
 
 /// Adds octets, for which there is room.
 fn append_octets(octets: &[u8], out: &mut Vec<u8>)
@@ -23,7 +25,7 @@ fn append_octets(octets: &[u8], out: &mut Vec<u8>)
     };
 }
 
-/// Adds a unit behind its start code.
+/// Adds a unit after its start code.
 fn append_unit(unit: &[u8], out: &mut Vec<u8>)
     requires { vec_len out.old + 4 + length unit.now ≤ vec_capacity out.old }
     ensures items { out.new.items ≡ out.old.items ++ behind_code unit.now }
@@ -49,7 +51,7 @@ fn append_units(octets: &[u8], out: &mut Vec<u8>)
     }
 }
 
-/// Adds the octets of a fragment, behind its indicator and header.
+/// Adds the octets of a fragment, after its indicator and header.
 fn append_cut(indicator: u8, octets: &[u8], out: &mut Vec<u8>)
     requires { vec_len out.old + length (flat_map added_by (cut_of indicator octets.now))
         ≤ vec_capacity out.old }
@@ -60,7 +62,7 @@ fn append_cut(indicator: u8, octets: &[u8], out: &mut Vec<u8>)
     let [header, octets @ ..] = octets else {
         return;
     };
-    if bit(*header, 128) {
+    if bit(*header, BIT_S) {
         append_octets(&START_CODE, out);
         append_octets(&[first_octet(indicator, *header)], out);
     }

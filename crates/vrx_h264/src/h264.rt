@@ -6,20 +6,22 @@ ghost use Rattle.vrx_h264.specs.Joining.{joining as joining_of};
 ghost use Rattle.vrx_h264.specs.Laws.{h264_within, h264_joins, h264_counted, h264_raises};
 
 use crate::append::append_payload;
-use crate::joining::{NO_END, added, begun_behind};
+use crate::faults::FU_NO_END;
+use crate::joining::{added, begun_behind};
 use crate::payload::part_of;
 use vrx_codec::{Codec, Join, JoinFault, Part, PartFault};
 
 /// H.264 (RFC 6184), in packets of one unit, of several (STAP-A) and of a fragment of one (FU-A). Parts join to the
-/// units that they carry, each behind the start code `00 00 00 01`.
+/// units that they carry, each after the start code `00 00 00 01`.
 ///
-/// A payload that isn't read has the first of these faults: 11, it is empty; 12, the type of it, of a unit or of a
-/// fragment isn't one of those; in a STAP-A, for one unit after another, 13, a size or a unit runs past the end, or
-/// there is none, 14, a size is 0, and 12; in an FU-A 15, the header is missing, 16, it says both S and E, and 12.
-/// Each is told at the octet that is wrong, 13 and 14 at the size, and 15 at the end.
+/// A payload that isn't read has the first fault of [`faults`] that applies: `EMPTY`; `KIND` of the payload; in a
+/// STAP-A, for one unit after another, `STAP_PAST_END`, `STAP_ZERO` and `KIND`; in an FU-A `FU_SHORT`, `FU_BOTH` and
+/// `KIND`.
 ///
-/// Parts don't join with fault 21 where a later fragment comes while no unit is begun, 22 where anything else comes
-/// or they end while one is, and 23 where a later fragment is of another type than the unit.
+/// Parts don't join with `FU_NO_START` if a later fragment comes while no unit is begun, with `FU_NO_END` if anything
+/// else comes or they end while one is, and with `FU_MIXED` if a later fragment is of another type than the unit.
+///
+/// [`faults`]: crate::faults
 #[derive(Clone, Copy, Debug, PartialEq, Eq)]
 pub struct H264;
 
@@ -43,7 +45,7 @@ impl Codec for H264 {
     fn end(state: Join) -> Result<u32, JoinFault> {
         match state.unit {
             None => Ok(state.octets),
-            Some(_) => Err(JoinFault { code: NO_END }),
+            Some(_) => Err(JoinFault { code: FU_NO_END }),
         }
     }
 

@@ -8,20 +8,13 @@ ghost use Rattle.vrx_h264.specs.AccessUnit.{behind_code};
 ghost use Rattle.vrx_h264.specs.Joining.{begun_behind as begun_behind_of, begun_behind_all, added_by, added as added_of};
 
 use crate::aggregate::front;
-use crate::nal::{Form, bit, form_of, kind};
-use vrx_codec::JoinFault;
+use crate::bits::{BIT_E, BIT_S};
+use crate::faults::{FU_MIXED, FU_NO_END, FU_NO_START};
+use crate::nal::{Form, form_of, kind};
+use vrx_codec::{JoinFault, bit};
 
 /// What stands before each unit.
 pub(crate) const START_CODE: [u8; 4] = [0, 0, 0, 1];
-
-/// The fault of a later fragment while no unit is begun.
-const NO_START: u8 = 21;
-
-/// The fault of anything but a later fragment while a unit is begun.
-pub(crate) const NO_END: u8 = 22;
-
-/// The fault of a later fragment of a unit of another type.
-const MIXED: u8 = 23;
 
 /// The first octet of a fragment's unit: F and NRI of its indicator, and the type of its header.
 pub(crate) fn first_octet(indicator: u8, header: u8) -> u8
@@ -30,17 +23,17 @@ pub(crate) fn first_octet(indicator: u8, header: u8) -> u8
     indicator / 32 * 32 + kind(header)
 }
 
-/// The unit that is begun behind a whole one: none.
+/// The unit that is begun after a whole one: none.
 fn begun_behind_whole(begun: Option<u8>) -> Result<Option<u8>, JoinFault>
     ensures { (unit : List ℕ) → result ≡ begun_behind_of begun (Whole unit) }
 {
     match begun {
         None => Ok(None),
-        Some(_) => Err(JoinFault { code: NO_END }),
+        Some(_) => Err(JoinFault { code: FU_NO_END }),
     }
 }
 
-/// The unit that is begun behind those of an aggregate.
+/// The unit that is begun after those of an aggregate.
 fn begun_behind_units(begun: Option<u8>, octets: &[u8]) -> Result<Option<u8>, JoinFault>
     ensures { result ≡ begun_behind_all begun (map Whole (units_of octets.now).units) }
 {
@@ -50,7 +43,7 @@ fn begun_behind_units(begun: Option<u8>, octets: &[u8]) -> Result<Option<u8>, Jo
     }
 }
 
-/// The unit that is begun behind a fragment, by its indicator and header.
+/// The unit that is begun after a fragment, by its indicator and header.
 fn begun_behind_header(
     begun: Option<u8>,
     indicator: u8,
@@ -61,25 +54,29 @@ fn begun_behind_header(
 {
     match begun {
         None => {
-            if bit(header, 128) {
+            if bit(header, BIT_S) {
                 Ok(Some(first_octet(indicator, header)))
             } else {
-                Err(JoinFault { code: NO_START })
+                Err(JoinFault { code: FU_NO_START })
             }
         }
         Some(first) => {
-            if bit(header, 128) {
-                Err(JoinFault { code: NO_END })
+            if bit(header, BIT_S) {
+                Err(JoinFault { code: FU_NO_END })
             } else if kind(first) == kind(header) {
-                Ok(if bit(header, 64) { None } else { Some(first) })
+                Ok(if bit(header, BIT_E) {
+                    None
+                } else {
+                    Some(first)
+                })
             } else {
-                Err(JoinFault { code: MIXED })
+                Err(JoinFault { code: FU_MIXED })
             }
         }
     }
 }
 
-/// The unit that is begun behind a fragment.
+/// The unit that is begun after a fragment.
 fn begun_behind_cut(
     begun: Option<u8>,
     indicator: u8,
@@ -93,7 +90,7 @@ fn begun_behind_cut(
     }
 }
 
-/// The first octet of the unit that is begun behind a payload, where one is, from that before it.
+/// The first octet of the unit that is begun after a payload, if one is, from that before it.
 pub(crate) fn begun_behind(begun: Option<u8>, payload: &[u8]) -> Result<Option<u8>, JoinFault>
     ensures { result ≡ begun_behind_all begun (pieces payload.now) }
 {
@@ -129,7 +126,7 @@ fn added_cut(octets: &[u8]) -> usize
 {
     match octets {
         [header, octets @ ..] => {
-            if bit(*header, 128) {
+            if bit(*header, BIT_S) {
                 START_CODE.len() + 1 + octets.len()
             } else {
                 octets.len()

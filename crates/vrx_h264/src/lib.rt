@@ -6,21 +6,25 @@
 //! |F|NRI|  Type   |   the first octet of a unit and of a payload
 //! +-+-+-+-+-+-+-+-+
 //! 1 to 23:  the payload is one unit
-//! 24:       STAP-A: units, each behind its size in two octets
+//! 24:       STAP-A: units, each after its size in two octets
 //! 28:       FU-A: an octet S E R Type, and octets of a unit of that type
 //! ```
 //!
 //! [`H264`] is the codec; [`write_stap`] and [`write_fu`] write what it reads. `specs/IsPayload.antt IsPayload` is
-//! the grammar of payloads, and `specs/IsAccessUnit.antt AreUnits` that of the units which parts join to.
+//! the grammar of payloads, and `specs/IsAccessUnit.antt AreUnits` that of the units which parts join to. [`faults`]
+//! names the faults, [`types`] the types, and [`bits`] the bits of headers.
 #![tactic(auto)]
 
 mod aggregate;
 mod append;
+pub mod bits;
+pub mod faults;
 mod h264;
 mod joining;
 mod laws;
 mod nal;
 mod payload;
+pub mod types;
 mod units;
 mod writing;
 

@@ -4,28 +4,28 @@ ghost use Rattle.std.specs.Prelude.{◌≡◌};
 ghost use Rattle.vrx_codec.specs.View.{view_result};
 ghost use Rattle.vrx_h264.specs.Payload.{pieces, cut_fault as cut_fault_of, fault as fault_of, begin_sequence, hold_idr, read_part};
 
-use crate::aggregate::{self, KIND, aggregate_fault, holds_idr};
-use crate::nal::{Form, IDR, SEQUENCE, bit, form_of, is_unit_kind, kind, unit_kind};
-use vrx_codec::{Part, PartFault, Start};
+use crate::aggregate::{self, aggregate_fault, holds_idr};
+use crate::bits::{BIT_E, BIT_S};
+use crate::faults::{EMPTY, FU_BOTH, FU_SHORT, KIND};
+use crate::nal::{Form, form_of, is_unit_kind, kind, unit_kind};
+use crate::types::{IDR, SEQUENCE};
+use vrx_codec::{Part, PartFault, Start, bit};
 
-/// The fault of a payload without an octet.
-const EMPTY: u8 = 11;
-
-/// The fault of a fragment without a header.
-const SHORT: u8 = 15;
-
-/// The fault of a fragment that says both that its unit begins and that it ends.
-const BOTH: u8 = 16;
-
-/// What is wrong with the octets behind the indicator of a fragment.
+/// What is wrong with the octets after the indicator of a fragment.
 fn cut_fault(rest: &[u8]) -> Option<PartFault>
     ensures { result ≡ cut_fault_of rest.now }
 {
     let [header, ..] = rest else {
-        return Some(PartFault { code: SHORT, at: 1 });
+        return Some(PartFault {
+            code: FU_SHORT,
+            at: 1,
+        });
     };
-    if bit(*header, 128) && bit(*header, 64) {
-        Some(PartFault { code: BOTH, at: 1 })
+    if bit(*header, BIT_S) && bit(*header, BIT_E) {
+        Some(PartFault {
+            code: FU_BOTH,
+            at: 1,
+        })
     } else if is_unit_kind(kind(*header)) {
         None
     } else {
@@ -59,7 +59,7 @@ fn begins_sequence(payload: &[u8]) -> bool
         Form::Single => kind(*head) == SEQUENCE,
         Form::Aggregate => aggregate::begins_sequence(rest),
         Form::Fragmented => match rest {
-            [header, ..] => bit(*header, 128) && kind(*header) == SEQUENCE,
+            [header, ..] => bit(*header, BIT_S) && kind(*header) == SEQUENCE,
             [] => false,
         },
         Form::Other => false,

@@ -13,7 +13,7 @@ fn part_of<C: Codec>(payload: &[u8]) -> Result<Part<'_>, PartFault> {
     C::read_part(payload)
 }
 
-/// What the one part of a payload makes of a state, and the octets that it adds, by any codec. None where it is no
+/// What the one part of a payload makes of a state, and the octets that it adds, by any codec. None if it is no
 /// part.
 fn one_joined<C: Codec>(
     alloc: Global,
@@ -41,7 +41,7 @@ fn ended<C: Codec>(state: Join) -> Result<u32, JoinFault> {
     C::end(state)
 }
 
-/// The bytes that short payloads join to. None where one is no part.
+/// The bytes that short payloads join to. None if one is no part.
 fn joined(
     alloc: Global,
     payloads: &[&[u8]],
@@ -83,7 +83,7 @@ fn reads_parts(rt: HostRuntime) {
         (&[0x68, 0xce], Start::ByNeighbour, false),
         // the greatest type of a unit as such
         (&[0x17], Start::ByNeighbour, false),
-        // STAP-A: both sets; the same with an IDR slice behind them; a picture parameter set before the other
+        // STAP-A: both sets; the same with an IDR slice after them; a picture parameter set before the other
         (
             &[0x78, 0, 2, 0x67, 0x42, 0, 2, 0x68, 0xce],
             Start::Yes,
@@ -139,14 +139,14 @@ fn tells_what_is_wrong_first(rt: HostRuntime) {
         (&[0x78, 0, 1], 13, 1),
         (&[0x78, 0, 3, 0x67, 0x42], 13, 1),
         (&[0x78, 1, 0, 0x67, 0x42], 13, 1),
-        // the same behind a unit
+        // the same after a unit
         (&[0x78, 0, 1, 0x67, 0], 13, 4),
         (&[0x78, 0, 1, 0x67, 0, 2, 0x68], 13, 4),
-        // a size of 0 at once, and behind units
+        // a size of 0 at once, and after units
         (&[0x78, 0, 0], 14, 1),
         (&[0x78, 0, 1, 0x67, 0, 0], 14, 4),
         (&[0x78, 0, 2, 0x67, 0x42, 0, 1, 0x68, 0, 0, 0xaa], 14, 8),
-        // a unit of type 0; a STAP-A in a STAP-A; an FU-A in it, behind a unit
+        // a unit of type 0; a STAP-A in a STAP-A; an FU-A in it, after a unit
         (&[0x78, 0, 1, 0x60], 12, 3),
         (&[0x78, 0, 4, 0x78, 0, 1, 0x67], 12, 3),
         (&[0x78, 0, 1, 0x67, 0, 2, 0x7c, 0x85], 12, 6),
@@ -193,7 +193,7 @@ fn joins_units(rt: HostRuntime) -> Result<(), Fail> {
             &[&[0x7c, 0xa5, 0xb1], &[0x7c, 0x65, 0xb2]],
             &[0, 0, 0, 1, 0x65, 0xb1, 0xb2],
         ),
-        // one fragmented unit behind another, and whole units between them
+        // one fragmented unit after another, and whole units between them
         (
             &[
                 &[0x7c, 0x85],
@@ -229,12 +229,12 @@ fn joins_units(rt: HostRuntime) -> Result<(), Fail> {
 #[test]
 fn tells_why_units_do_not_join(rt: HostRuntime) -> Result<(), Fail> {
     let cases: [(&[&[u8]], u8); 12] = [
-        // a later fragment at once, behind a whole unit, behind the last of another
+        // a later fragment at once, after a whole unit, after the last of another
         (&[&[0x7c, 0x05]], 21),
         (&[&[0x7c, 0x45]], 21),
         (&[&[0x67], &[0x7c, 0x05]], 21),
         (&[&[0x7c, 0x85], &[0x7c, 0x45], &[0x7c, 0x45]], 21),
-        // no end, behind the first and behind one inside; a single unit, an aggregate and a first fragment in its
+        // no end, after the first and after one inside; a single unit, an aggregate and a first fragment in its
         // place
         (&[&[0x7c, 0x85]], 22),
         (&[&[0x7c, 0x85], &[0x7c, 0x05]], 22),
@@ -286,7 +286,7 @@ fn are_units(units: &[Unit]) -> bool
     }
 }
 
-/// What is written for units. None where one isn't one as such, or there is none.
+/// What is written for units. None if one isn't one as such, or there is none.
 fn stap(alloc: Global, lists: &[&[u8]]) -> Result<Option<Result<Vec<u8>, WriteFault>>, NoMemory> {
     let mut units = Units::new(alloc);
     for octets in lists {
@@ -298,7 +298,7 @@ fn stap(alloc: Global, lists: &[&[u8]]) -> Result<Option<Result<Vec<u8>, WriteFa
     Ok(Some(write_stap(alloc, &units)))
 }
 
-/// What is written for a stretch of a unit. None where that may not be written.
+/// What is written for a stretch of a unit. None if that may not be written.
 fn fu(alloc: Global, unit: &[u8], at: usize, len: usize) -> Result<Option<Vec<u8>>, NoMemory> {
     let right = is_unit(unit);
     if right && 1 <= at && at <= unit.len() && len <= unit.len() - at && len + 1 < unit.len() {
@@ -330,7 +330,7 @@ fn writes_aggregates(rt: HostRuntime) -> Result<(), Fail> {
             &[0x78, 0, 2, 0x67, 0x42, 0, 2, 0x68, 0xce],
         ),
         (&[&[0x65]], &[0x78, 0, 1, 0x65]),
-        // NRI 0 alone; 1 and 2; F of one unit, and the NRI of the other
+        // only NRI 0; 1 and 2; F of one unit, and the NRI of the other
         (&[&[0x06]], &[0x18, 0, 1, 0x06]),
         (
             &[&[0x41], &[0x21, 0x9a]],

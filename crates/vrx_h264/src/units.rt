@@ -25,7 +25,7 @@ impl Model for Unit {
 impl Unit {
     /// No octets yet. It takes no memory.
     pub fn new(alloc: Global) -> Unit
-        ensures { result ≡ [] }
+        ensures none { result ≡ [] }
     {
         Unit {
             octets: Vec::new(alloc),
@@ -42,7 +42,7 @@ impl Unit {
 
     /// The octets in order.
     pub fn as_slice(&self) -> &[u8]
-        ensures { result.now ≡ self.now }
+        ensures value { result.now ≡ self.now }
     {
         self.octets.as_slice()
     }
@@ -67,7 +67,7 @@ impl Model for Units {
 impl Units {
     /// No units yet. It takes no memory.
     pub fn new(alloc: Global) -> Units
-        ensures { result ≡ [] }
+        ensures none { result ≡ [] }
     {
         Units {
             units: Vec::new(alloc),
@@ -84,7 +84,7 @@ impl Units {
 
     /// The units in order.
     pub fn as_slice(&self) -> &[Unit]
-        ensures { result.now ≡ self.now }
+        ensures value { result.now ≡ self.now }
     {
         self.units.as_slice()
     }

@@ -7,9 +7,12 @@ ghost use Rattle.vrx_h264.specs.Payload.{Whole, Cut, part_with, read_part};
 ghost use Rattle.vrx_h264.specs.IsPayload.{IsUnit, sized, IsPayload};
 ghost use Rattle.vrx_h264.specs.Writing.{has_f as has_f_of, nri as nri_of, have_f as have_f_of, greatest_nri as greatest_nri_of, written_units, cut_at, written_cut};
 
-use crate::nal::{bit, kind};
+use crate::bits::{BIT_E, BIT_F, BIT_S};
+use crate::nal::kind;
+use crate::types::{FU_A, STAP_A};
 use crate::units::{Unit, Units};
 use std::alloc::Global;
+use vrx_codec::bit;
 use vrx_num::NoMemory;
 
 /// Why units aren't written.
@@ -22,12 +25,6 @@ pub enum WriteFault {
     #[error("out of memory")]
     NoMemory,
 }
-
-/// The type of an aggregate, STAP-A.
-const STAP: u8 = 24;
-
-/// The type of a fragment, FU-A.
-const FU: u8 = 28;
 
 /// The first octet of a unit, which has one.
 fn head(unit: &[u8]) -> u8
@@ -56,7 +53,7 @@ fn have_f(units: &[Unit]) -> bool
     ensures { result ≡ have_f_of units.now }
 {
     for unit in units {
-        if bit(head(unit.as_slice()), 128) {
+        if bit(head(unit.as_slice()), BIT_F) {
             return true;
         }
     }
@@ -78,7 +75,7 @@ fn greatest_nri(units: &[Unit]) -> u8
     greatest
 }
 
-/// Adds a unit behind its size.
+/// Adds a unit after its size.
 fn push_sized(out: &mut Vec<u8>, unit: &[u8]) -> Result<(), NoMemory>
     requires { length unit.now < 65536 }
     ensures { OnOk result (out.new.items ≡ out.old.items ++ sized unit.now) }
@@ -95,8 +92,8 @@ fn stap_of(alloc: Global, units: &[Unit]) -> Result<Vec<u8>, NoMemory>
     ensures { IfOk result (λ payload. payload.items ≡ written_units units.now) }
 {
     let mut payload = Vec::new(alloc);
-    let f = if have_f(units) { 128 } else { 0 };
-    payload.push(f + greatest_nri(units) * 32 + STAP)?;
+    let f = if have_f(units) { BIT_F } else { 0 };
+    payload.push(f + greatest_nri(units) * 32 + STAP_A)?;
     for unit in units {
         push_sized(&mut payload, unit.as_slice())?;
     }
@@ -104,10 +101,10 @@ fn stap_of(alloc: Global, units: &[Unit]) -> Result<Vec<u8>, NoMemory>
 }
 
 /// One payload of several units, a STAP-A (RFC 6184 5.7.1). There is at least one unit, and each is one as such: its
-/// first octet says a type of 1 to 23. F of the payload's first octet is 1 where some unit has it, and NRI is the
+/// first octet says a type of 1 to 23. F of the payload's first octet is 1 if some unit has it, and NRI is the
 /// greatest.
 ///
-/// `SizeTooLong` comes where a unit has more than 65,535 octets.
+/// `SizeTooLong` comes if a unit has more than 65,535 octets.
 pub fn write_stap(alloc: Global, units: &Units) -> Result<Vec<u8>, WriteFault>
     requires some { units.now ≢ [] }
     requires units { AllByRecursion IsUnit units.now }
@@ -130,18 +127,18 @@ pub fn write_stap(alloc: Global, units: &Units) -> Result<Vec<u8>, WriteFault>
 
 /// The header of the fragment of a unit with this first octet.
 fn cut_header(head: u8, begins: bool, ends: bool) -> u8
-    ensures { result ≡ (if begins then 128 else 0) + (if ends then 64 else 0) + kind_of head }
+    ensures { result ≡ (if begins then BIT_S else 0) + (if ends then BIT_E else 0) + kind_of head }
 {
-    let s = if begins { 128 } else { 0 };
-    let e = if ends { 64 } else { 0 };
+    let s = if begins { BIT_S } else { 0 };
+    let e = if ends { BIT_E } else { 0 };
     s + e + kind(head)
 }
 
 /// One payload of a fragment of a unit, an FU-A (RFC 6184 5.8): of the `len` octets from octet `at` on. They lie
-/// behind the unit's first octet, and aren't all that do; that first octet says a type of 1 to 23.
+/// after the unit's first octet, and aren't all that do; that first octet says a type of 1 to 23.
 ///
-/// F and NRI are the unit's. S is 1 where `at` is 1, E where the fragment ends the unit, and R is 0. The fragments of
-/// a unit, one behind another, join to it: [`crate::fragments_join`].
+/// F and NRI are the unit's. S is 1 if `at` is 1, E if the fragment ends the unit, and R is 0. The fragments of
+/// a unit, one after another, join to it: [`crate::fragments_join`].
 pub fn write_fu(alloc: Global, unit: &[u8], at: usize, len: usize) -> Result<Vec<u8>, NoMemory>
     requires unit { IsUnit unit.now }
     requires behind_first { 1 ≤ at }
@@ -156,7 +153,7 @@ pub fn write_fu(alloc: Global, unit: &[u8], at: usize, len: usize) -> Result<Vec
     let first = head(unit);
     let octets = unit.split_at(at).1.split_at(len).0;
     let mut payload = Vec::new(alloc);
-    payload.push(first / 32 * 32 + FU)?;
+    payload.push(first / 32 * 32 + FU_A)?;
     payload.push(cut_header(first, at == 1, at + len == unit.len()))?;
     payload.extend_from_slice(octets)?;
     Ok(payload)

@@ -1,11 +1,7 @@
--- Lemmas for callers on counts of faults: a rise seen over a part of a run is one over the whole run.
+-- Counts of faults: a rise seen over a part of a run is one over the whole run.
 use Rattle.std.proofs.Common.{ℕ, ◌≤◌, arith, inl, inr}
 use Rattle.vrx_io.specs.Faults.{Rose}
 
 -- a count that rose after a stretch in which it didn't fall has risen since the stretch began
 pub rose_before : (start before after : ℕ) → start ≤ before → Rose before after → Rose start after
 rose_before start before after not_fallen rose = elim rose [ inl higher ↦ inl (omega arith) | inr greatest ↦ inr greatest ]
-
--- a count that rose, and didn't fall afterwards, has risen in all
-pub rose_after : (before after finish : ℕ) → Rose before after → after ≤ finish → Rose before finish
-rose_after before after finish rose not_fallen = elim rose [ inl higher ↦ inl (omega arith) | inr greatest ↦ inr (omega arith) ]

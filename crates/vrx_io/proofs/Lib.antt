@@ -1,2 +1,2 @@
-pub mod FaultsLemmas
-pub mod SinkLemmas
+mod FaultsLemmas
+mod SinkLemmas

@@ -6,7 +6,7 @@ use Rattle.std.specs.declared.result.Result.{Result}
 abbrev pub raised : ℕ → ℕ
 raised count = min (count + 1) 18446744073709551615
 
--- the count after a call with this result: one more where it failed
+-- the count after a call with this result: one more if it failed
 abbrev pub faults_after : {T E : Type 0} → ℕ → Result T E → ℕ
 faults_after count result = if is_ok result then count else raised count
 

@@ -3,7 +3,7 @@ use Rattle.std.specs.Prelude.{◌≡◌, ℕ, ◌<◌, List, ◌++◌, length, t
 use Rattle.std.specs.Option.{option_map}
 use Rattle.std.specs.declared.option.Option.{Option}
 
--- the bytes taken after more of them, where the sink tells them
+-- the bytes taken after more of them, if the sink tells them
 abbrev pub extended : Option (List ℕ) → List ℕ → Option (List ℕ)
 extended taken more = option_map (λ bytes. bytes ++ more) taken
 

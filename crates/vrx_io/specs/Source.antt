@@ -8,10 +8,10 @@ pub record TakesFront (bytes : List ℕ) (left : Option (List ℕ)) (n : ℕ) (b
   pub rest : left ≡ Some (drop n bytes)
   pub given : take n buf ≡ take n bytes
 
--- a read gave the first n of the bytes that were left, where the source tells them
+-- a read gave the first n of the bytes that were left, if the source tells them
 abbrev pub Gives : Option (List ℕ) → Option (List ℕ) → ℕ → List ℕ → Type 0
 Gives before after n buf = IfSome before (λ bytes. TakesFront bytes after n buf)
 
--- no byte is left, where the source tells them
+-- no byte is left, if the source tells them
 abbrev pub IsSpent : Option (List ℕ) → Type 0
 IsSpent left = IfSome left (λ bytes. bytes ≡ [])

@@ -6,10 +6,6 @@
 //!
 //! The crate opens no file, keeps no buffer, retries nothing and says nothing of why a read or a
 //! write failed. Look at [`put`] first, then at the two traits.
-//!
-//! A caller's proof may cite `proofs/SinkLemmas.antt`, on texts taken one after another, and
-//! `proofs/FaultsLemmas.antt`, on counts that rose: by `#[tactic(auto, using(..))]`, as the callers
-//! in `src/tests.rt` do.
 #![tactic(auto)]
 
 mod failed;

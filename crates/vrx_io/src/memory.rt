@@ -1,6 +1,7 @@
 //! A source and a sink in memory, which fail at chosen calls.
 
 ghost use Rattle.std.specs.Prelude.{◌≡◌, ◌<◌, ◌≤◌, ◌↔◌, [], Some, Ok, length, vec_capacity, take, drop, min, ◌++◌, IsOk, IsErr, IfOk, OnErr};
+ghost use Rattle.vrx_io.specs.Faults.{raised};
 ghost use Rattle.vrx_io.specs.Memory.{SourceState, fresh_source, ReadFails, read_len, after_read, after_failed_read};
 ghost use Rattle.vrx_io.specs.Memory.{SinkState, fresh_sink, WriteFails, write_len, after_write, after_failed_write};
 
@@ -40,8 +41,8 @@ impl MemSource {
     /// A source of these bytes, at most `most` of them a read. The reads whose numbers, counted
     /// from 1, are in `fails` fail, and give nothing.
     pub fn new(bytes: Vec<u8>, fails: Vec<u64>, most: usize) -> MemSource
-        requires { 1 ≤ most }
-        ensures { result ≡ fresh_source bytes.items fails.items most }
+        requires some { 1 ≤ most }
+        ensures fresh { result ≡ fresh_source bytes.items fails.items most }
     {
         MemSource {
             bytes,
@@ -59,6 +60,8 @@ impl Source for MemSource {
 
     ghost faults = { λ s. s.faults };
 
+    ghost is_read = { λ old octets new. new.calls ≡ raised old.calls };
+
     fn read(&mut self, buf: &mut [u8]) -> Result<usize, Failed>
         ensures fails { IsErr result ↔ ReadFails self.old }
         ensures ok { IfOk result (λ n. n ≡ read_len self.old (length buf.old)) }
@@ -67,7 +70,7 @@ impl Source for MemSource {
         ensures err { OnErr result (self.new ≡ after_failed_read self.old) }
         ensures untouched { OnErr result (buf.new ≡ buf.old) }
 
-        // What the state alone doesn't say: a read may give one byte, and counts stay in 64 bits.
+        // What the state by itself doesn't say: a read may give one byte, and counts stay in 64 bits.
         ensures end { result ≡ Ok 0 → 0 < length buf.old → self.old.bytes ≡ [] }
         ensures later { self.old.faults ≤ self.new.faults }
     {
@@ -129,7 +132,7 @@ impl MemSink {
         fails: Vec<u64>,
         most: usize,
     ) -> Result<MemSink, NoMemory>
-        requires { 1 ≤ most }
+        requires some { 1 ≤ most }
         ensures fresh { IfOk result (λ s. s ≡ fresh_sink room fails.items most) }
 
         // A sink with no room takes no memory. With room it may run out.
@@ -146,9 +149,9 @@ impl MemSink {
         })
     }
 
-    /// The bytes taken so far.
+    /// The bytes that it has taken.
     pub fn written(&self) -> &[u8]
-        ensures { result.now ≡ self.now.bytes }
+        ensures value { result.now ≡ self.now.bytes }
     {
         self.bytes.as_slice()
     }
@@ -165,7 +168,7 @@ impl Sink for MemSink {
         ensures after { IfOk result (λ n. self.new ≡ after_write self.old (take n piece.now)) }
         ensures err { OnErr result (self.new ≡ after_failed_write self.old) }
 
-        // What the state alone doesn't say: a write may take one byte, and counts stay in 64 bits.
+        // What the state by itself doesn't say: a write may take one byte, and counts stay in 64 bits.
         ensures some { 0 < length piece.now → IfOk result (λ n. 0 < n) }
         ensures later { self.old.faults ≤ self.new.faults }
     {

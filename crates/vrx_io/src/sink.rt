@@ -9,13 +9,13 @@ use crate::failed::Failed;
 
 /// What bytes are written to. It may tell which bytes it took, and it counts the writes that fail.
 pub trait Sink {
-    /// All the bytes taken so far, where the sink tells them.
+    /// All the bytes that it has taken, if the sink tells them.
     ghost taken: { Self → Option (List ℕ) };
 
     /// How many writes failed. The count may stop at the greatest number of 64 bits.
     ghost faults: { Self → ℕ };
 
-    /// Takes some of `piece` from the front, and says how many: at least one, where there is one.
+    /// Takes some of `piece` from the front, and says how many: at least one, if there is one.
     /// A `Failed` write took nothing.
     fn write(&mut self, piece: &[u8]) -> Result<usize, Failed>
         ensures some { 0 < length piece.now → IfOk result (λ n. 0 < n) }
@@ -24,8 +24,9 @@ pub trait Sink {
             taken self.new ≡ extended (taken self.old) (take n piece.now)) }
         ensures failed { OnErr result (taken self.new ≡ taken self.old) }
 
-        // A write that fails is counted.
+        // A write that fails is counted, and no other.
         ensures later { faults self.old ≤ faults self.new }
+        ensures uncounted { OnOk result (faults self.new ≡ faults self.old) }
         ensures cause { OnErr result (Rose (faults self.old) (faults self.new)) };
 }
 
@@ -36,6 +37,7 @@ pub fn put<K: Sink>(sink: &mut K, text: &[u8]) -> Result<(), Failed>
     ensures ok { OnOk result (K.taken sink.new ≡ extended (K.taken sink.old) text.now) }
     ensures err { OnErr result (TakesPart (K.taken sink.old) (K.taken sink.new) text.now) }
     ensures later { K.faults sink.old ≤ K.faults sink.new }
+    ensures uncounted { OnOk result (K.faults sink.new ≡ K.faults sink.old) }
     ensures cause { OnErr result (Rose (K.faults sink.old) (K.faults sink.new)) }
 {
     let mut at = 0;

@@ -1,6 +1,6 @@
 //! Sources and sinks over what std reads and writes.
 
-ghost use Rattle.std.specs.Prelude.{◌≡◌, ◌<◌, ◌≤◌, None, length, IfOk};
+ghost use Rattle.std.specs.Prelude.{◌≡◌, ◌<◌, ◌≤◌, ⊤, None, length, IfOk};
 ghost use Rattle.std.specs.Io.KnownBytes.{ReadConsumes, WriteAppends};
 ghost use Rattle.vrx_io.specs.Faults.{faults_after};
 ghost use Rattle.vrx_io.specs.Standard.{Counted};
@@ -28,7 +28,7 @@ impl<R> Model for StdSource<R> {
 impl<R: Read> StdSource<R> {
     /// A source that reads from this reader.
     pub fn new(reader: R) -> StdSource<R>
-        ensures { result ≡ record { device = reader; faults = 0 } }
+        ensures fresh { result ≡ record { device = reader; faults = 0 } }
     {
         StdSource { reader, faults: 0 }
     }
@@ -39,8 +39,10 @@ impl<R: Read> Source for StdSource<R> {
 
     ghost faults = { λ s. s.faults };
 
+    ghost is_read = { λ _ _ _. ⊤ };
+
     fn read(&mut self, buf: &mut [u8]) -> Result<usize, Failed>
-        // What is read are the reader's next bytes, where the reader says which they are.
+        // What is read are the reader's next bytes, if the reader says which they are.
         ensures bytes { ReadConsumes (R.remaining self.old.device) (R.remaining self.new.device)
             result buf.new }
         ensures counted { self.new.faults ≡ faults_after self.old.faults result }
@@ -58,7 +60,7 @@ impl<R: Read> Source for StdSource<R> {
 }
 
 /// A sink over a writer of std. As a sink it doesn't tell the bytes taken. Each error of the writer
-/// is a fault, as is a write that takes no byte where there is one. It flushes nothing.
+/// is a fault, as is a write that takes no byte if there is one. It flushes nothing.
 #[derive(Drop)]
 pub struct StdSink<W> {
     writer: W,
@@ -74,7 +76,7 @@ impl<W> Model for StdSink<W> {
 impl<W: Write> StdSink<W> {
     /// A sink that writes to this writer.
     pub fn new(writer: W) -> StdSink<W>
-        ensures { result ≡ record { device = writer; faults = 0 } }
+        ensures fresh { result ≡ record { device = writer; faults = 0 } }
     {
         StdSink { writer, faults: 0 }
     }
@@ -86,7 +88,7 @@ impl<W: Write> Sink for StdSink<W> {
     ghost faults = { λ s. s.faults };
 
     fn write(&mut self, piece: &[u8]) -> Result<usize, Failed>
-        // What is written goes to the end of what the writer holds, where the writer says that.
+        // What is written goes to the end of what the writer holds, if the writer says that.
         ensures bytes { WriteAppends (W.contents self.old.device) (W.contents self.new.device)
             result piece.now }
         ensures counted { self.new.faults ≡ faults_after self.old.faults result }

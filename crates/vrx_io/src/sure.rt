@@ -26,7 +26,7 @@ impl Model for SureSource {
 impl SureSource {
     /// A source of these bytes.
     pub fn new(bytes: Vec<u8>) -> SureSource
-        ensures { result ≡ bytes.items }
+        ensures fresh { result ≡ bytes.items }
     {
         SureSource { bytes, at: 0 }
     }
@@ -36,6 +36,8 @@ impl Source for SureSource {
     ghost left = { λ s. Some s };
 
     ghost faults = { λ _. 0 };
+
+    ghost is_read = { λ old octets new. old ≡ octets ++ new };
 
     fn read(&mut self, buf: &mut [u8]) -> Result<usize, Failed>
         ensures sure { result ≡ Ok (min (length buf.old) (length self.old)) }

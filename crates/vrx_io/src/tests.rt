@@ -11,7 +11,7 @@ use std::io::{Read, Write};
 use std::process::Abort;
 use std::test::Fail;
 
-// The bytes that the next read gives, or `None` where it fails.
+// The bytes that the next read gives, or `None` if it fails.
 fn expect_read<S: Source>(rt: &impl Abort, source: &mut S, want: Option<&[u8]>) {
     let mut buf = [0; 4];
     match source.read(&mut buf) {
@@ -101,7 +101,7 @@ impl Read for EveryOther {
 }
 
 impl Write for EveryOther {
-    // Where it doesn't work it takes no byte, and gives no error.
+    // If it doesn't work it takes no byte, and gives no error.
     fn write(&mut self, buf: &[u8]) -> io::Result<usize> {
         self.works = !self.works;
         if self.works { Ok(buf.len()) } else { Ok(0) }

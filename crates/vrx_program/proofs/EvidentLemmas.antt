@@ -7,9 +7,9 @@ use Rattle.vrx_codec.specs.Part.{Part}
 use Rattle.vrx_codec.specs.declared.part.Start.{Start}
 use Rattle.vrx_codec.specs.declared.part.Start.TheVariants.{Yes, No, ByNeighbour}
 use Rattle.vrx_vp8.specs.Descriptor.{Fields, fields, part_with, part_of, vp8}
-use Rattle.vrx_core.specs.Sender.{SentFrame, SentPacket, Media, Sender, IsOf, Spans}
-use Rattle.vrx_core.specs.HonestSender.{Carried, SaysRightly, IsPart, AreParts, Travels, HonestSender}
-use Rattle.vrx_core.specs.Ready.{SaysStart}
+use Rattle.vrx_core.specs.honest.Sender.{SentFrame, SentPacket, Media, Empty, Sender, IsOf, Spans}
+use Rattle.vrx_core.specs.honest.HonestSender.{Carried, SaysRightly, IsPart, AreParts, Travels, HonestSender}
+use Rattle.vrx_core.specs.honest.Ready.{SaysStart}
 use Rattle.vrx_core.specs.declared.settings.Settings.{Settings}
 use Rattle.vrx_program.specs.Evident.{Vp8BeginsHolds}
 
@@ -92,8 +92,10 @@ module _ (settings : Settings) (sender : Sender) where
     says : IsSomeAnd (slice_get sender.packets from) (SaysStart vp8)
     says =
         let w : (packet : SentPacket) × (slice_get sender.packets from ≡ Some packet) = what_is_there (IsOf f) (slice_get sender.packets from) of_frame in
-        let p : (g : ℕ) × (g < length sender.frames) × (honest.place g ≤ from) × (from < honest.place g + length (honest.parts g)) = honest.no_other from (slice_get_within sender.packets from w.0 w.1) in
-        by_frame p.0 (slice_get sender.frames p.0) refl p.1 p.2 p.3
+        elim (honest.no_other from (slice_get_within sender.packets from w.0 w.1)) [
+          | inl empty ↦ absurd (and_there (IsOf f) (slice_get sender.packets from) Empty empty of_frame)
+          | inr p ↦ by_frame p.0 (slice_get sender.frames p.0) refl p.1 p.2 p.3
+        ]
 
 -- so it is evident at every time
 pub vp8-begins : Vp8BeginsHolds

@@ -13,7 +13,8 @@ use Rattle.vrx_text.specs.declared.transcript.ErrorReason.{ErrorReason}
 use Rattle.vrx_text.specs.declared.transcript.ErrorReason.TheVariants as errors
 use Rattle.vrx_program.specs.HasRead.{HasRead}
 use Rattle.vrx_program.specs.Outcome.{Outcome, text_of_outcome, refused}
-use Rattle.vrx_program.specs.Replay.{most_events}
+use Rattle.vrx_program.specs.Job.{most_events}
+use Rattle.vrx_program.specs.Heads.{RefusesHeads}
 use Rattle.vrx_program.specs.Ends.{Ends, EndsOver, EndsBadly}
 use Rattle.vrx_program.specs.declared.status.Status.{Status}
 use Rattle.vrx_program.specs.declared.status.Status.TheVariants as statuses
@@ -21,28 +22,15 @@ use Rattle.vrx_program.proofs.ReadsLemmas.{ahead-told, reads-first, reads-front}
 use Rattle.vrx_program.proofs.TextLemmas.{extended-none, ends-badly}
 
 -- the first call gave a line: it was read
-pub head-read : (source : Option (List ℕ)) (old new : Reader) (after : Option (List ℕ)) (line : List ℕ) → LinesJoin → ReadingsJoin → old ≡ opening most_events → (p : Passes old new source after) × (IsHead old new p.read p.gone (Some line)) → new.events ≡ old.events → new.bad ≡ old.bad
-    → HasRead most_events source line new after []
-head-read source old new after line lines_join readings_join is head events bad = let h = subst (λ o. (p : Passes o new source after) × (IsHead o new p.read p.gone (Some line))) is head in
-    reads-first lines_join readings_join most_events source line new after h.0 h.1.0 (events ∙ ap (λ (r : Reader). r.events) is) (bad ∙ ap (λ (r : Reader). r.bad) is)
-
--- a run refuses a capture that has no first line, or one that is too long
-pub record RefusesHeads (outcome : List ℕ → Outcome) : Type 0 where
-  pub refuses : (capture : List ℕ) → HasNoHead (lines_of capture) → outcome capture ≡ refused errors.Settings
-  pub nothing : (outcome []).told ≡ []
+pub head-read : (source : Option (List ℕ)) (new : Reader) (after : Option (List ℕ)) (line : List ℕ) → LinesJoin → ReadingsJoin → (p : Passes (opening most_events) new source after) → IsHead (opening most_events) new p.read p.gone (Some line) → new.events ≡ 0 → new.bad ≡ None
+    → (now : HasRead most_events source line new after []) × (p.read ≡ now.gone ++ new.kept)
+head-read source new after line lines_join readings_join p head events bad = reads-first lines_join readings_join most_events source line new after p head.0 events bad
 
 module _ (outcome : List ℕ → Outcome) where
   -- a capture whose first line is refused
   ends-first : (reason : ErrorReason) (capture : List ℕ) (status : Status) (sink last left : Option (List ℕ)) → outcome capture ≡ refused reason → EndsBadly status (error_line 1 reason) sink last → Ends outcome status capture sink last left
   ends-first reason capture status sink last left is ends =
       ends-badly status outcome capture [] (error_line 1 reason) sink sink last left (ap (λ (o : Outcome). o.status) is) (ap text_of_outcome is) (sym (extended-none sink)) ends
-
-  -- want of memory before the first event
-  pub ends-early : (source sink left : Option (List ℕ)) → EndsOver outcome statuses.NoMemory source sink left sink
-  ends-early source sink left = over source where
-    over : (o : Option (List ℕ)) → EndsOver outcome statuses.NoMemory o sink left sink
-    over None = tt
-    over (Some capture) = (0, sym (extended-none sink))
 
   -- a first call that passed over nothing
   module _ (heads : RefusesHeads outcome) (source sink : Option (List ℕ)) (new : Reader) (after : Option (List ℕ)) (p : Passes (opening most_events) new source after) (none_gone : p.gone ≡ []) where
@@ -80,16 +68,6 @@ module _ (outcome : List ℕ → Outcome) where
         short = short;
         took = sym (extended-none sink) ∙ ap (extended sink) (sym heads.nothing);
       }
-
-  -- the same, as the first call answers
-  pub head-none : RefusesHeads outcome → (source sink : Option (List ℕ)) (old new : Reader) (after last : Option (List ℕ)) (status : Status) → old ≡ opening most_events → (p : Passes old new source after) × (IsHead old new p.read p.gone None)
-      → EndsBadly status (error_line 1 errors.Settings) sink last → EndsOver outcome status source sink after last
-  head-none refuses source sink old new after last status is head ends = let h = subst (λ o. (p : Passes o new source after) × (IsHead o new p.read p.gone None)) is head in
-      ends-none refuses source sink new after h.0 h.1.0 last status (h.1.1 (omega arith)) ends
-
-  pub head-unread : RefusesHeads outcome → (source sink : Option (List ℕ)) (old new : Reader) (after : Option (List ℕ)) → old ≡ opening most_events → (p : Passes old new source after) × (IsHeadFault new p.gone heads.ReadFault) → EndsOver outcome statuses.ReadFault source sink after sink
-  head-unread refuses source sink old new after is head = let h = subst (λ o. (p : Passes o new source after) × (IsHeadFault new p.gone heads.ReadFault)) is head in
-      ends-unread refuses source sink new after h.0 h.1.0 h.1.1 h.1.3
 
   -- the first line is refused
   pub ends-refused : LinesJoin → ReadingsJoin → (source sink : Option (List ℕ)) (line : List ℕ) (reader : Reader) (left last : Option (List ℕ)) (reason : ErrorReason) (status : Status) → HasRead most_events source line reader left []

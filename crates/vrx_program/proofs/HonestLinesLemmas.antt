@@ -2,12 +2,12 @@
 use Rattle.std.proofs.Common.{◌≡◌, ℕ, ◌+◌, List, [], ◌∷◌, ◌++◌, length, map, refl, sym, ◌∙◌, ap, subst, ◌⊎◌, inl, inr, append_assoc}
 use Rattle.std.specs.Prelude.{Option, Some, None, Result, Ok, Err, IfSome, IsOkAnd}
 use Rattle.vrx_io.specs.Sink.{extended}
-use Rattle.vrx_vp8.specs.Descriptor.{vp8}
-use Rattle.vrx_core.specs.Machine.{reply, replies}
-use Rattle.vrx_core.specs.Sender.{Sender}
-use Rattle.vrx_core.specs.HonestSender.{HonestSender}
-use Rattle.vrx_core.specs.HonestNetwork.{Origin, HonestNetwork}
-use Rattle.vrx_core.specs.HonestCall.{HonestCallHolds}
+use Rattle.vrx_codec.specs.Meaning.{Meaning}
+use Rattle.vrx_core.specs.machine.Machine.{reply, replies}
+use Rattle.vrx_core.specs.honest.Sender.{Sender}
+use Rattle.vrx_core.specs.honest.HonestSender.{HonestSender}
+use Rattle.vrx_core.specs.honest.HonestNetwork.{Origin, HonestNetwork}
+use Rattle.vrx_core.specs.honest.HonestCall.{HonestCallHolds}
 use Rattle.vrx_core.specs.declared.settings.Settings.{Settings}
 use Rattle.vrx_core.specs.declared.event.Event.{Event}
 use Rattle.vrx_core.specs.declared.event.Event.TheVariants.{Datagram, Tick, Pull}
@@ -20,21 +20,23 @@ use Rattle.vrx_text.specs.declared.line.LineKind.TheVariants.{Blank, Happens, Wr
 use Rattle.vrx_text.specs.declared.transcript.ErrorReason.{ErrorReason}
 use Rattle.vrx_text.specs.Transcript.{text_of, transcript}
 use Rattle.vrx_program.specs.Outcome.{text_of_outcome, error_text, refused}
-use Rattle.vrx_program.specs.Replay.{settings_of, most_events, before_tick, Call, call_with, call_from, call_in, call_of, outcome_of, replayed}
+use Rattle.vrx_text.specs.declared.settings_line.CodecName.{CodecName}
+use Rattle.vrx_program.specs.Replay.{meaning_of, settings_of, most_events, before_tick, Call, call_with, call_from, call_in, call_of, outcome_of, replayed}
 use Rattle.vrx_program.specs.Ends.{TookFront, TookLines, Ends, EndsOver}
-use Rattle.vrx_program.specs.Plays.{history_after}
+use Rattle.vrx_program.specs.Job.{history_after}
 use Rattle.vrx_program.specs.HonestLines.{events_of, IsHonestCapture, lines_text, call_text, HonestLines}
 use Rattle.vrx_program.specs.declared.status.Status.{Status}
 use Rattle.vrx_program.specs.declared.status.Status.TheVariants as statuses
+use Rattle.vrx_program.proofs.FaultlessLemmas.{call-faultless}
 use Rattle.vrx_program.proofs.ReadsLemmas.{ahead-told}
 use Rattle.vrx_program.proofs.TextLemmas.{took-more, take-all}
-use Rattle.vrx_program.proofs.PlaysLemmas.{transcript-more}
+use Rattle.vrx_program.proofs.ReplayLemmas.{transcript-more}
 
 -- a transcript is the lines of the machine's replies
-pub transcript-lines : (settings : Settings) (h : List Event) (lines : List (ℕ × Event)) → transcript settings vp8 h lines ≡ lines_text lines (replies settings vp8 h (map (λ line. line.1) lines))
+pub transcript-lines : (codec : Meaning) (settings : Settings) (h : List Event) (lines : List (ℕ × Event)) → transcript settings codec h lines ≡ lines_text lines (replies settings codec h (map (λ line. line.1) lines))
 unfolding transcript replies
-transcript-lines settings h [] = refl
-transcript-lines settings h ((k, e) ∷ lines) = ap (λ text. text_of k (reply settings vp8 h e) ++ text) (transcript-lines settings (e ∷ h) lines)
+transcript-lines codec settings h [] = refl
+transcript-lines codec settings h ((k, e) ∷ lines) = ap (λ text. text_of k (reply settings codec h e) ++ text) (transcript-lines codec settings (e ∷ h) lines)
 
 -- ---- what whole lines give is the front of what they give with others behind them
 
@@ -59,20 +61,20 @@ before_tick-front ((k, Tick moment) ∷ events) more = ([], refl)
 before_tick-front ((k, Datagram moment octets) ∷ events) more = let rest = before_tick-front events more in (rest.0, ap (λ e. (k, Datagram moment octets) ∷ e) rest.1)
 before_tick-front ((k, Pull moment) ∷ events) more = let rest = before_tick-front events more in (rest.0, ap (λ e. (k, Pull moment) ∷ e) rest.1)
 
-call-front : (settings : Settings) (r whole : Reading) → (more : List (ℕ × Event)) × (whole.events ≡ r.events ++ more) → Leads (outcome_of (Ok (call_with settings r))).told (text_of_outcome (outcome_of (Ok (call_with settings whole))))
-call-front settings r whole (more, is) =
+call-front : (first : CodecName × Settings) (r whole : Reading) → (more : List (ℕ × Event)) × (whole.events ≡ r.events ++ more) → Leads (outcome_of (Ok (call_with first r))).told (text_of_outcome (outcome_of (Ok (call_with first whole))))
+call-front first r whole (more, is) =
     let rest = before_tick-front r.events more in
-    let told : List ℕ = transcript settings vp8 [] (before_tick r.events) in
-    let behind : List ℕ = transcript settings vp8 (history_after [] (before_tick r.events)) rest.0 in
-    let last : List ℕ = error_text (call_with settings whole).bad in
-    (behind ++ last, ap (λ t. t ++ last) (ap (transcript settings vp8 []) (ap before_tick is ∙ rest.1) ∙ transcript-more settings [] (before_tick r.events) rest.0) ∙ append_assoc told behind last)
+    let told : List ℕ = transcript first.1 (meaning_of first.0) [] (before_tick r.events) in
+    let behind : List ℕ = transcript first.1 (meaning_of first.0) (history_after [] (before_tick r.events)) rest.0 in
+    let last : List ℕ = error_text (call_with first whole).bad in
+    (behind ++ last, ap (λ t. t ++ last) (ap (transcript first.1 (meaning_of first.0) []) (ap before_tick is ∙ rest.1) ∙ transcript-more (meaning_of first.0) first.1 [] (before_tick r.events) rest.0) ∙ append_assoc told behind last)
 
 lines-front : (lines others : List (List ℕ)) → Leads (outcome_of (call_in lines)).told (text_of_outcome (outcome_of (call_in (lines ++ others))))
 lines-front [] others = (text_of_outcome (outcome_of (call_in others)), refl)
 lines-front (line ∷ lines) others = by_settings (settings_of line) where
-  by_settings : (told : Result Settings ErrorReason) → Leads (outcome_of (call_from told lines)).told (text_of_outcome (outcome_of (call_from told (lines ++ others))))
+  by_settings : (told : Result (CodecName × Settings) ErrorReason) → Leads (outcome_of (call_from told lines)).told (text_of_outcome (outcome_of (call_from told (lines ++ others))))
   by_settings (Err reason) = (text_of_outcome (refused reason), refl)
-  by_settings (Ok settings) = call-front settings (reading most_events 2 0 lines) (reading most_events 2 0 (lines ++ others)) (reading-front most_events 2 0 lines others)
+  by_settings (Ok first) = call-front first (reading most_events 2 0 lines) (reading most_events 2 0 (lines ++ others)) (reading-front most_events 2 0 lines others)
 
 whole-front : (lines_join : LinesJoin) (lines rest : List ℕ) → AreWhole lines → Leads (replayed lines).told (text_of_outcome (replayed (lines ++ rest)))
 whole-front lines_join lines rest whole = let front = lines-front (lines_of lines) (lines_of rest) in
@@ -113,17 +115,17 @@ took-all statuses.BadUsage capture before after left ends which = absurd ends
 
 -- the run of an honest capture
 honest-run : (law : HonestCallHolds) (lines_join : LinesJoin) (capture : List ℕ) (sender : Sender) (origins : List Origin) (status : Status) (before after left : Option (List ℕ)) (o : Result Call ErrorReason) → call_of capture ≡ o
-    → Ends replayed status capture before after left → IsOkAnd o (λ call. HonestSender call.settings vp8 sender × HonestNetwork call.settings vp8 sender [] [] (events_of call) origins) → HonestLines capture sender origins status before after
+    → Ends replayed status capture before after left → IsOkAnd o (λ call. HonestSender call.settings (meaning_of call.codec) sender × HonestNetwork call.settings (meaning_of call.codec) sender [] [] (events_of call) origins) → HonestLines capture sender origins status before after
 honest-run law lines_join capture sender origins status before after left (Err reason) is ends honest = absurd honest
 honest-run law lines_join capture sender origins status before after left (Ok call) is ends honest = record {
   call = call;
   told = is;
-  honest = law call.settings vp8 sender (events_of call) origins honest.0 honest.1;
+  honest = law call.settings (meaning_of call.codec) sender (events_of call) origins (call-faultless capture call is) honest.0 honest.1;
   took = subst (TookFront before after) text_is (took-any lines_join status capture before after left ends);
   whole = λ which. took-all status capture before after left ends which ∙ ap (extended before) text_is;
 } where
   text_is : text_of_outcome (replayed capture) ≡ call_text call
-  text_is = ap (λ c. text_of_outcome (outcome_of c)) is ∙ ap (λ t. t ++ error_text call.bad) (transcript-lines call.settings [] call.events)
+  text_is = ap (λ c. text_of_outcome (outcome_of c)) is ∙ ap (λ t. t ++ error_text call.bad) (transcript-lines (meaning_of call.codec) call.settings [] call.events)
 
 pub honest-lines : (law : HonestCallHolds) (lines_join : LinesJoin) (told : Option (List ℕ)) (status : Status) (before after left : Option (List ℕ)) → EndsOver replayed status told before left after
     → IfSome told (λ capture. (sender : Sender) (origins : List Origin) → IsHonestCapture capture sender origins → HonestLines capture sender origins status before after)

@@ -1,21 +1,22 @@
 -- An honest sender and an honest network, worked by hand: the premises of the law can be met.
-use Rattle.std.proofs.Common.{◌≢◌, ◌≤◌, ◌<◌, ◌≡◌, ◌∙◌, ap, inl, inr, Contains, All, slice_index_or, ℕ, zero, suc, ◌+◌, true, false, List, [], ◌∷◌, length, None, IfSome, slice_get, refl, arith}
+use Rattle.std.proofs.Common.{◌≢◌, ◌≤◌, ◌<◌, ◌≡◌, ◌∙◌, ap, inl, inr, Contains, All, slice_index_or, ℕ, zero, suc, ◌+◌, true, false, List, [], ◌∷◌, length, None, Some, ◌⊎◌, IfSome, slice_get, refl, arith}
 use Rattle.std.specs.Prelude.{nat_lt}
 use Rattle.std.specs.List.{AllByRecursion, list_all}
 use Rattle.std.proofs.lemmas.Bool.{and_parts, ltb-true}
 use Rattle.std.proofs.lemmas.List.Elements.{All-nil, All-from_recursion}
 use Rattle.vrx_rtp.specs.Packet.{AreOctets}
-use Rattle.vrx_core.specs.WireForm.{IsPadded}
+use Rattle.vrx_core.specs.honest.WireForm.{IsPadded, IsEmptyPacket}
 use Rattle.vrx_vp8.specs.Descriptor.{vp8}
-use Rattle.vrx_core.specs.Machine.{handled_as, ToDatagram, ToTick, ToPull, no_feedback, replies, reply, snapshots}
-use Rattle.vrx_core.specs.Sender.{SentFrame, Media, Sender}
+use Rattle.vrx_core.specs.machine.Machine.{Reply, no_feedback, ToDatagram, ToTick, ToPull, replies, reply, snapshots}
+use Rattle.vrx_core.specs.honest.Sender.{SentFrame, SentPacket, Media, Empty, Sender}
 use Rattle.vrx_codec.specs.declared.part.Start.TheVariants.{Yes, No}
-use Rattle.vrx_core.specs.Chain.{InChain}
-use Rattle.vrx_core.specs.HonestSender.{Carried, IsPart, Travels, HonestSender}
-use Rattle.vrx_core.specs.HonestNetwork.{Origin, FromSender, Elsewhere, HonestNetwork, taken}
+use Rattle.vrx_core.specs.honest.Chain.{InChain}
+use Rattle.vrx_core.specs.honest.HonestSender.{Carried, IsPart, Travels, HonestSender}
+use Rattle.vrx_core.specs.honest.HonestNetwork.{Origin, FromSender, Elsewhere, HonestNetwork, taken}
 use Rattle.vrx_core.specs.declared.settings.Settings.{Settings}
 use Rattle.vrx_core.specs.declared.event.Event.{Event}
 use Rattle.vrx_core.specs.declared.event.Event.TheVariants.{Datagram, Tick, Pull}
+use Rattle.vrx_core.specs.declared.reply.What.{What}
 use Rattle.vrx_core.specs.declared.reply.What.TheVariants as what
 use Rattle.vrx_core.specs.declared.reply.What.TheVariants.{Dropped}
 use Rattle.vrx_core.specs.declared.reply.Reason.TheVariants.{NotRtp, Repeat}
@@ -24,7 +25,12 @@ use Rattle.vrx_core.specs.declared.reply.Pulled.TheVariants.{NotReady, Frame}
 abbrev settings : Settings
 settings = record { media_ssrc = 10; media_type = 96; red = None; rtx = None; from_ssrc = 11; interval = 100 }
 
--- a keyframe of two packets, of the sequence numbers 65535 and 0, and a frame of one packet that refers to it
+-- a reply to a datagram that repairs nothing and sends no feedback
+abbrev answered : What → Reply
+answered what = ToDatagram (record { what = what; repaired = []; feedback = no_feedback })
+
+-- a keyframe of two packets, of the sequence numbers 65535 and 0; a packet without a payload; and a frame of one packet
+-- that refers to the keyframe
 abbrev first_text : List ℕ
 first_text = 128 ∷ 96 ∷ 255 ∷ 255 ∷ 0 ∷ 0 ∷ 0 ∷ 0 ∷ 0 ∷ 0 ∷ 0 ∷ 10 ∷ 16 ∷ 0 ∷ 170 ∷ []
 
@@ -32,7 +38,7 @@ abbrev second_text : List ℕ
 second_text = 128 ∷ 224 ∷ 0 ∷ 0 ∷ 0 ∷ 0 ∷ 0 ∷ 0 ∷ 0 ∷ 0 ∷ 0 ∷ 10 ∷ 0 ∷ 187 ∷ []
 
 abbrev third_text : List ℕ
-third_text = 128 ∷ 224 ∷ 0 ∷ 1 ∷ 0 ∷ 0 ∷ 0 ∷ 9 ∷ 0 ∷ 0 ∷ 0 ∷ 10 ∷ 16 ∷ 1 ∷ 204 ∷ []
+third_text = 128 ∷ 224 ∷ 0 ∷ 2 ∷ 0 ∷ 0 ∷ 0 ∷ 9 ∷ 0 ∷ 0 ∷ 0 ∷ 10 ∷ 16 ∷ 1 ∷ 204 ∷ []
 
 abbrev first_frame : SentFrame
 first_frame = record { bytes = 0 ∷ 170 ∷ 187 ∷ []; key = true; ts = 0; references = [] }
@@ -41,7 +47,7 @@ abbrev second_frame : SentFrame
 second_frame = record { bytes = 1 ∷ 204 ∷ []; key = false; ts = 9; references = 0 ∷ [] }
 
 abbrev sender : Sender
-sender = record { first_wire = 65535; frames = first_frame ∷ second_frame ∷ []; packets = Media 0 0 first_text ∷ Media 0 1 second_text ∷ Media 1 0 third_text ∷ [] }
+sender = record { first_wire = 65535; frames = first_frame ∷ second_frame ∷ []; packets = Media 0 0 first_text ∷ Media 0 1 second_text ∷ Empty ∷ Media 1 0 third_text ∷ [] }
 
 -- what the packets carry
 abbrev first_part : Carried
@@ -61,7 +67,7 @@ second_part = record {
 abbrev third_part : Carried
 third_part = record {
   text = third_text;
-  packet = record { marker = true; pt = 96; seq = 1; ts = 9; ssrc = 10; csrc = []; extension = None; payload = 16 ∷ 1 ∷ 204 ∷ []; padding = 0 };
+  packet = record { marker = true; pt = 96; seq = 2; ts = 9; ssrc = 10; csrc = []; extension = None; payload = 16 ∷ 1 ∷ 204 ∷ []; padding = 0 };
   part = record { start = Yes; key = false; layers = None; body = 1 ∷ 204 ∷ [] };
 }
 
@@ -76,7 +82,7 @@ are_octets octets h = All-from_recursion (λ octet. octet < 256) octets (each oc
 first_is : IsPart settings vp8 sender 0 first_frame 2 0 0 first_part
 first_is = record {
   sent = refl;
-  media = record { size = omega arith; below = are_octets first_text refl; reads = refl; no_padding = refl; number = refl; type = refl; source = refl; payload = λ e. cc; part_reads = refl; no_rtcp = λ r. absurd (omega (arith, r.at_most)); layers = refl };
+  media = record { size = omega arith; below = are_octets first_text refl; reads = refl; no_padding = refl; number = refl; type = refl; source = refl; payload = λ e. cc; part_reads = refl; layers = refl };
   timestamp = refl;
   marker = (λ e. cc, λ e. absurd (omega arith));
   start = refl;
@@ -85,16 +91,16 @@ first_is = record {
 second_is : IsPart settings vp8 sender 0 first_frame 2 1 1 second_part
 second_is = record {
   sent = refl;
-  media = record { size = omega arith; below = are_octets second_text refl; reads = refl; no_padding = refl; number = refl; type = refl; source = refl; payload = λ e. cc; part_reads = refl; no_rtcp = λ r. absurd (omega (arith, r.at_most)); layers = refl };
+  media = record { size = omega arith; below = are_octets second_text refl; reads = refl; no_padding = refl; number = refl; type = refl; source = refl; payload = λ e. cc; part_reads = refl; layers = refl };
   timestamp = refl;
   marker = (λ e. refl, λ e. refl);
   start = λ same. omega arith;
 }
 
-third_is : IsPart settings vp8 sender 1 second_frame 1 0 2 third_part
+third_is : IsPart settings vp8 sender 1 second_frame 1 0 3 third_part
 third_is = record {
   sent = refl;
-  media = record { size = omega arith; below = are_octets third_text refl; reads = refl; no_padding = refl; number = refl; type = refl; source = refl; payload = λ e. cc; part_reads = refl; no_rtcp = λ r. absurd (omega (arith, r.at_most)); layers = refl };
+  media = record { size = omega arith; below = are_octets third_text refl; reads = refl; no_padding = refl; number = refl; type = refl; source = refl; payload = λ e. cc; part_reads = refl; layers = refl };
   timestamp = refl;
   marker = (λ e. refl, λ e. refl);
   start = refl;
@@ -121,7 +127,7 @@ only_one x y c = at_place c.0 c.1 c.2 where
 no_key : (c : Carried) → Contains (third_part ∷ []) c → c.part.key ≡ true → second_frame.key ≡ true
 no_key c there key = ap (λ (x : Carried). x.part.key) (only_one third_part c there) ∙ key
 
-second_travels : Travels settings vp8 sender 1 second_frame 2 (third_part ∷ [])
+second_travels : Travels settings vp8 sender 1 second_frame 3 (third_part ∷ [])
 unfolding third_is
 second_travels = record {
   some = omega arith;
@@ -133,7 +139,7 @@ second_travels = record {
 -- the places and the parts of the frames
 abbrev place : ℕ → ℕ
 place zero = 0
-place (suc f) = 2
+place (suc f) = 3
 
 abbrev parts : ℕ → List Carried
 parts zero = first_part ∷ second_part ∷ []
@@ -162,10 +168,11 @@ sender-honest = record {
   order zero (suc g) less within = omega arith
   order (suc f) (suc g) less within = absurd (omega arith)
 
-  others : (i : ℕ) → i < length sender.packets → (f : ℕ) × (f < length sender.frames) × (place f ≤ i) × (i < place f + length (parts f))
-  others zero within = (0, omega arith, omega arith, omega arith)
-  others (suc zero) within = (0, omega arith, omega arith, omega arith)
-  others (suc (suc i)) within = (1, omega arith, omega arith, omega arith)
+  others : (i : ℕ) → i < length sender.packets → (slice_get sender.packets i ≡ Some Empty) ⊎ ((f : ℕ) × (f < length sender.frames) × (place f ≤ i) × (i < place f + length (parts f)))
+  others zero within = inr (0, omega arith, omega arith, omega arith)
+  others (suc zero) within = inr (0, omega arith, omega arith, omega arith)
+  others (suc (suc zero)) within = inl refl
+  others (suc (suc (suc i))) within = inr (1, omega arith, omega arith, omega arith)
 
   none : All (λ g. InChain sender 0 g) []
   none = All-nil (λ g. InChain sender 0 g)
@@ -180,33 +187,50 @@ sender-honest = record {
 
 -- the third packet with padding of three octets
 abbrev third_padded : List ℕ
-third_padded = 160 ∷ 224 ∷ 0 ∷ 1 ∷ 0 ∷ 0 ∷ 0 ∷ 9 ∷ 0 ∷ 0 ∷ 0 ∷ 10 ∷ 16 ∷ 1 ∷ 204 ∷ 7 ∷ 7 ∷ 3 ∷ []
+third_padded = 160 ∷ 224 ∷ 0 ∷ 2 ∷ 0 ∷ 0 ∷ 0 ∷ 9 ∷ 0 ∷ 0 ∷ 0 ∷ 10 ∷ 16 ∷ 1 ∷ 204 ∷ 7 ∷ 7 ∷ 3 ∷ []
 
 third_is_padded : IsPadded third_text third_padded
 unfolding are_octets
 third_is_padded = record {
   size = omega arith;
   below = are_octets third_padded refl;
-  packet = record { marker = true; pt = 96; seq = 1; ts = 9; ssrc = 10; csrc = []; extension = None; payload = 16 ∷ 1 ∷ 204 ∷ []; padding = 3 };
+  packet = record { marker = true; pt = 96; seq = 2; ts = 9; ssrc = 10; csrc = []; extension = None; payload = 16 ∷ 1 ∷ 204 ∷ []; padding = 3 };
   reads = refl;
   spelled = refl;
 }
 
--- the last packet of the first frame, octets that are no packet, a pull, a tick, the first packet, a repeat,
--- a pull, the third packet with padding, the same without, and a pull
+-- the empty packet, with padding of four octets
+abbrev empty_padded : List ℕ
+empty_padded = 160 ∷ 96 ∷ 0 ∷ 1 ∷ 0 ∷ 0 ∷ 0 ∷ 5 ∷ 0 ∷ 0 ∷ 0 ∷ 10 ∷ 0 ∷ 0 ∷ 0 ∷ 4 ∷ []
+
+empty_is : IsEmptyPacket settings 1 empty_padded
+unfolding are_octets
+empty_is = record {
+  size = omega arith;
+  below = are_octets empty_padded refl;
+  packet = record { marker = false; pt = 96; seq = 1; ts = 5; ssrc = 10; csrc = []; extension = None; payload = []; padding = 4 };
+  reads = refl;
+  number = refl;
+  type = refl;
+  source = refl;
+  payload = refl;
+}
+
+-- the last packet of the first frame, octets that are no packet, a pull, a tick, the first packet, a repeat, a pull, the
+-- last frame's packet with padding, the same without, a pull, the empty packet, and a pull
 abbrev events : List Event
 events =
     Datagram 0 second_text ∷ Datagram 1 (7 ∷ []) ∷ Pull 2 ∷ Tick 2 ∷ Datagram 3 first_text ∷ Datagram 3 second_text ∷ Pull 4
-    ∷ Datagram 5 third_padded ∷ Datagram 6 third_text ∷ Pull 7 ∷ []
+    ∷ Datagram 5 third_padded ∷ Datagram 6 third_text ∷ Pull 7 ∷ Datagram 8 empty_padded ∷ Pull 9 ∷ []
 
 abbrev origins : List Origin
 origins =
     FromSender 1 ∷ Elsewhere ∷ Elsewhere ∷ Elsewhere ∷ FromSender 0 ∷ FromSender 1 ∷ Elsewhere
-    ∷ FromSender 2 ∷ FromSender 2 ∷ Elsewhere ∷ []
+    ∷ FromSender 3 ∷ FromSender 3 ∷ Elsewhere ∷ FromSender 2 ∷ Elsewhere ∷ []
 
 -- the network is honest
 pub network-honest : HonestNetwork settings vp8 sender [] [] events origins
-unfolding snapshots taken
+unfolding snapshots taken empty_is third_is_padded
 network-honest = (
   (inl refl, tt),
   (
@@ -223,7 +247,7 @@ network-honest = (
               tt,
               (
                 (inr third_is_padded, (omega arith, omega arith)),
-                ((inl refl, (omega arith, omega arith)), (tt, tt)),
+                ((inl refl, (omega arith, omega arith)), (tt, ((empty_is, (omega arith, omega arith)), (tt, tt)))),
               ),
             ),
           ),
@@ -233,10 +257,12 @@ network-honest = (
   ),
 )
 
--- the padded datagram is taken, the same without padding is a repeat, and the frame has no padding octet
+-- the padded datagram is taken, and the same without padding is a repeat. The last frame waits until the empty packet
+-- came, which is passed over; and the frame has no padding octet
 pub padded_taken : replies settings vp8 [] events
-    ≡ ToDatagram (handled_as (what.Media 65536)) ∷ ToDatagram (handled_as (Dropped NotRtp)) ∷ ToPull NotReady ∷ ToTick no_feedback ∷ ToDatagram (handled_as (what.Media 65535)) ∷ ToDatagram (handled_as (Dropped Repeat))
+    ≡ answered (what.Media 65536) ∷ answered (Dropped NotRtp) ∷ ToPull NotReady ∷ ToTick no_feedback ∷ answered (what.Media 65535) ∷ answered (Dropped Repeat)
     ∷ ToPull (Frame (record { first = 65535; last = 65536; ts = 0; key = true; bytes = 0 ∷ 170 ∷ 187 ∷ [] }))
-    ∷ ToDatagram (handled_as (what.Media 65537)) ∷ ToDatagram (handled_as (Dropped Repeat)) ∷ ToPull (Frame (record { first = 65537; last = 65537; ts = 9; key = false; bytes = 1 ∷ 204 ∷ [] })) ∷ []
+    ∷ answered (what.Media 65538) ∷ answered (Dropped Repeat) ∷ ToPull NotReady
+    ∷ answered (what.Empty 65537) ∷ ToPull (Frame (record { first = 65538; last = 65538; ts = 9; key = false; bytes = 1 ∷ 204 ∷ [] })) ∷ []
 unfolding replies reply snapshots
 padded_taken = refl

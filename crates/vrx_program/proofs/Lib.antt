@@ -1,10 +1,14 @@
 pub mod WordsLemmas
 pub mod ReadsLemmas
 pub mod TextLemmas
-pub mod PlaysLemmas
-pub mod LooksLemmas
+pub mod InStepLemmas
 pub mod HeadLemmas
+pub mod JobLemmas
+pub mod RunsLemmas
+pub mod ReplayLemmas
+pub mod InspectLemmas
 pub mod SettingsLemmas
+pub mod FaultlessLemmas
 pub mod HonestLinesLemmas
 pub mod EvidentLemmas
 pub mod EngineRows

@@ -14,7 +14,7 @@ use Rattle.vrx_program.specs.HasRead.{HasRead}
 use Rattle.vrx_text.specs.Joins.{LinesJoin, ReadingsJoin, behind_events}
 use Rattle.vrx_text.specs.declared.line.LineReason.{LineReason}
 
-ahead-twice : (a b : List ℕ) (left : Option (List ℕ)) → ahead a (ahead b left) ≡ ahead (a ++ b) left
+pub ahead-twice : (a b : List ℕ) (left : Option (List ℕ)) → ahead a (ahead b left) ≡ ahead (a ++ b) left
 unfolding ahead
 ahead-twice a b None = refl
 ahead-twice a b (Some octets) = ap Some (sym (append_assoc a b octets))
@@ -29,7 +29,7 @@ no_more [] ys is = (refl, sym is)
 no_more (x ∷ xs) ys is = cc is
 
 -- whole lines and whole lines are whole lines
-whole-both : (a b : List ℕ) → AreWhole a → AreWhole b → AreWhole (a ++ b)
+pub whole-both : (a b : List ℕ) → AreWhole a → AreWhole b → AreWhole (a ++ b)
 whole-both a b one (inl none) = subst AreWhole (sym (ap (λ x. a ++ x) none ∙ append-nil a)) one
 whole-both a b one (inr (front, is)) = inr (a ++ front, ap (λ x. a ++ x) is ∙ sym (append_assoc a front (10 ∷ [])))
 
@@ -57,7 +57,7 @@ module _ (lines_join : LinesJoin) (readings_join : ReadingsJoin) (max : ℕ) (be
 
   -- one call more: the lines that it passed over give these events
   pub reads-on : (old new : Reader) (mid after : Option (List ℕ)) (events more : List (ℕ × Event)) (r : HasRead max before first old mid events) (p : Passes old new mid after)
-      → says old p.gone ≡ sound more → new.events ≡ old.events + length more → new.bad ≡ None → HasRead max before first new after (events ++ more)
+      → says old p.gone ≡ sound more → new.events ≡ old.events + length more → new.bad ≡ None → (now : HasRead max before first new after (events ++ more)) × ((r.gone ++ old.kept) ++ p.read ≡ now.gone ++ new.kept)
   reads-on old new mid after events more r p said count sound_now = by_whole r.whole where
     rest : List (List ℕ)
     rest = lines_of p.gone
@@ -72,20 +72,23 @@ module _ (lines_join : LinesJoin) (readings_join : ReadingsJoin) (max : ℕ) (be
     source_now = r.source ∙ ap (ahead (r.gone ++ old.kept)) p.source ∙ ahead-twice (r.gone ++ old.kept) p.read after
         ∙ ap (λ o. ahead o after) (append_assoc r.gone old.kept p.read ∙ ap (λ o. r.gone ++ o) p.octets ∙ sym (append_assoc r.gone p.gone new.kept))
 
-    in_whole : AreWhole r.gone → HasRead max before first new after (events ++ more)
-    in_whole whole = record {
-      gone = r.gone ++ p.gone;
-      others = r.others ++ rest;
-      source = source_now;
-      lines = lines_join r.gone p.gone whole ∙ ap (λ l. l ++ rest) r.lines;
-      gives = readings_join max 2 0 r.others rest events r.gives ∙ behind-none events _ more behind_is;
-      whole = whole_now p.whole;
-      end = end_now;
-      given = p.given ∙ omega (arith, r.given, length-append r.others rest);
-      count = count ∙ omega (arith, r.count, length-append events more);
-      max_is = p.max ∙ r.max_is;
-      bad = sound_now;
-    } where
+    in_whole : AreWhole r.gone → (now : HasRead max before first new after (events ++ more)) × ((r.gone ++ old.kept) ++ p.read ≡ now.gone ++ new.kept)
+    in_whole whole = (
+      record {
+        gone = r.gone ++ p.gone;
+        others = r.others ++ rest;
+        source = source_now;
+        lines = lines_join r.gone p.gone whole ∙ ap (λ l. l ++ rest) r.lines;
+        gives = readings_join max 2 0 r.others rest events r.gives ∙ behind-none events _ more behind_is;
+        whole = whole_now p.whole;
+        end = end_now;
+        given = p.given ∙ omega (arith, r.given, length-append r.others rest);
+        count = count ∙ omega (arith, r.count, length-append events more);
+        max_is = p.max ∙ r.max_is;
+        bad = sound_now;
+      },
+      append_assoc r.gone old.kept p.read ∙ ap (λ o. r.gone ++ o) p.octets ∙ sym (append_assoc r.gone p.gone new.kept),
+    ) where
       behind_is : reading max (2 + length r.others) (0 + length events) rest ≡ sound more
       behind_is = ap (λ k. reading max k (0 + length events) rest) (omega (arith, r.given)) ∙ ap (λ n. reading max (old.given + 1) n rest) (omega (arith, r.count)) ∙ ap (λ m. reading m (old.given + 1) old.events rest) (sym r.max_is)
           ∙ sym (says-sound old p.gone r.bad) ∙ said
@@ -94,20 +97,23 @@ module _ (lines_join : LinesJoin) (readings_join : ReadingsJoin) (max : ℕ) (be
       whole_now (inl w) = inl (whole-both r.gone p.gone whole w)
       whole_now (inr last) = inr last
 
-    in_end : (old.ended ≡ true) × (old.kept ≡ []) → HasRead max before first new after (events ++ more)
-    in_end (ended, kept) = record {
-      gone = r.gone;
-      others = r.others;
-      source = subst (λ o. before ≡ ahead o after) (ap (λ g. (r.gone ++ g) ++ new.kept) nothing.0 ∙ ap (λ g. g ++ new.kept) (append-nil r.gone)) source_now;
-      lines = r.lines;
-      gives = r.gives ∙ ap sound (sym (ap (λ m. events ++ m) none ∙ append-nil events));
-      whole = inr (stays.0, nothing.1);
-      end = end_now;
-      given = p.given ∙ ap (λ g. old.given + length (lines_of g)) nothing.0 ∙ no_lines old.given ∙ r.given;
-      count = count ∙ ap (λ m. old.events + length m) none ∙ omega (arith, r.count) ∙ ap length (sym (ap (λ m. events ++ m) none ∙ append-nil events));
-      max_is = p.max ∙ r.max_is;
-      bad = sound_now;
-    } where
+    in_end : (old.ended ≡ true) × (old.kept ≡ []) → (now : HasRead max before first new after (events ++ more)) × ((r.gone ++ old.kept) ++ p.read ≡ now.gone ++ new.kept)
+    in_end (ended, kept) = (
+      record {
+        gone = r.gone;
+        others = r.others;
+        source = subst (λ o. before ≡ ahead o after) (ap (λ g. (r.gone ++ g) ++ new.kept) nothing.0 ∙ ap (λ g. g ++ new.kept) (append-nil r.gone)) source_now;
+        lines = r.lines;
+        gives = r.gives ∙ ap sound (sym (ap (λ m. events ++ m) none ∙ append-nil events));
+        whole = inr (stays.0, nothing.1);
+        end = end_now;
+        given = p.given ∙ ap (λ g. old.given + length (lines_of g)) nothing.0 ∙ no_lines old.given ∙ r.given;
+        count = count ∙ ap (λ m. old.events + length m) none ∙ omega (arith, r.count) ∙ ap length (sym (ap (λ m. events ++ m) none ∙ append-nil events));
+        max_is = p.max ∙ r.max_is;
+        bad = sound_now;
+      },
+      ap (λ k. (r.gone ++ k) ++ p.read) kept ∙ ap (λ o. (r.gone ++ []) ++ o) stays.1 ∙ append-nil (r.gone ++ []) ∙ ap (λ k. r.gone ++ k) (sym nothing.1),
+    ) where
       stays : (new.ended ≡ true) × (p.read ≡ [])
       stays = p.stays ended
 
@@ -117,29 +123,40 @@ module _ (lines_join : LinesJoin) (readings_join : ReadingsJoin) (max : ℕ) (be
       none : more ≡ []
       none = ap (λ (x : Reading). x.events) (sym said ∙ ap (says old) nothing.0 ∙ says-none old r.bad)
 
-    by_whole : AreWhole r.gone ⊎ ((old.ended ≡ true) × (old.kept ≡ [])) → HasRead max before first new after (events ++ more)
+    by_whole : AreWhole r.gone ⊎ ((old.ended ≡ true) × (old.kept ≡ [])) → (now : HasRead max before first new after (events ++ more)) × ((r.gone ++ old.kept) ++ p.read ≡ now.gone ++ new.kept)
     by_whole (inl whole) = in_whole whole
     by_whole (inr last) = in_end last
 
   -- the first call of a fresh reader gave the first line
-  pub reads-first : (new : Reader) (after : Option (List ℕ)) (p : Passes (opening max) new before after) → lines_of p.gone ≡ first ∷ [] → new.events ≡ 0 → new.bad ≡ None → HasRead max before first new after []
+  pub reads-first : (new : Reader) (after : Option (List ℕ)) (p : Passes (opening max) new before after) → lines_of p.gone ≡ first ∷ [] → new.events ≡ 0 → new.bad ≡ None → (now : HasRead max before first new after []) × (p.read ≡ now.gone ++ new.kept)
   unfolding reading
-  reads-first new after p line count bad = record {
-    gone = p.gone;
-    others = [];
-    source = p.source ∙ ap (λ o. ahead o after) p.octets;
-    lines = line;
-    gives = refl;
-    whole = p.whole;
-    end = λ ended. by_end (p.end ended);
-    given = p.given ∙ ap (λ ls. 0 + length ls) line;
-    count = count;
-    max_is = p.max;
-    bad = bad;
-  } where
+  reads-first new after p line count bad = (
+    record {
+      gone = p.gone;
+      others = [];
+      source = p.source ∙ ap (λ o. ahead o after) p.octets;
+      lines = line;
+      gives = refl;
+      whole = p.whole;
+      end = λ ended. by_end (p.end ended);
+      given = p.given ∙ ap (λ ls. 0 + length ls) line;
+      count = count;
+      max_is = p.max;
+      bad = bad;
+    },
+    p.octets,
+  ) where
     by_end : (false ≡ true) ⊎ IsSpent after → IsSpent after
     by_end (inl never) = cc never
     by_end (inr now) = now
+
+  -- whole lines behind what was read, which say nothing
+  pub reads-quiet : (reader : Reader) (left : Option (List ℕ)) (events : List (ℕ × Event)) (r : HasRead max before first reader left events) (octets : List ℕ) → AreWhole r.gone → says reader octets ≡ sound []
+      → (lines_of (r.gone ++ octets) ≡ first ∷ (r.others ++ lines_of octets)) × (reading max 2 0 (r.others ++ lines_of octets) ≡ sound events)
+  reads-quiet reader left events r octets whole said = (lines_join r.gone octets whole ∙ ap (λ l. l ++ lines_of octets) r.lines, readings_join max 2 0 r.others (lines_of octets) events r.gives ∙ behind-none events _ [] behind_is ∙ ap sound (append-nil events)) where
+    behind_is : reading max (2 + length r.others) (0 + length events) (lines_of octets) ≡ sound []
+    behind_is = ap (λ k. reading max k (0 + length events) (lines_of octets)) (omega (arith, r.given)) ∙ ap (λ n. reading max (reader.given + 1) n (lines_of octets)) (omega (arith, r.count)) ∙ ap (λ m. reading m (reader.given + 1) reader.events (lines_of octets)) (sym r.max_is)
+        ∙ sym (says-sound reader octets r.bad) ∙ said
 
   -- at the end, what was read is the capture
   pub reads-end : (reader : Reader) (left : Option (List ℕ)) (events : List (ℕ × Event)) (r : HasRead max before first reader left events) → reader.kept ≡ [] → reader.ended ≡ true

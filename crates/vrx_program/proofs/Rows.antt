@@ -1,17 +1,17 @@
 -- Whole replays and an inspection, worked by hand: the definitions on captures.
-use Rattle.std.proofs.Common.{◌≡◌, ◌<◌, inl, All, ℕ, zero, suc, List, [], ◌∷◌, ◌++◌, codes, refl, true, false, None, arith}
+use Rattle.std.proofs.Common.{◌≡◌, ◌<◌, inl, All, ℕ, zero, suc, List, [], ◌∷◌, ◌++◌, codes, refl, true, false, None, arith, inr}
 use Rattle.std.specs.Prelude.{nat_lt}
 use Rattle.std.specs.List.{AllByRecursion, list_all}
 use Rattle.std.proofs.lemmas.Bool.{and_parts, ltb-true}
 use Rattle.std.specs.Fmt.{digits}
 use Rattle.std.proofs.lemmas.List.Elements.{All-nil, All-from_recursion}
 use Rattle.vrx_vp8.specs.Descriptor.{vp8}
-use Rattle.vrx_core.specs.Machine.{snapshots, reply}
-use Rattle.vrx_core.specs.Sender.{SentFrame, Media, Sender}
+use Rattle.vrx_core.specs.machine.Machine.{snapshots, reply}
+use Rattle.vrx_core.specs.honest.Sender.{SentFrame, Media, Sender}
 use Rattle.vrx_codec.specs.declared.part.Start.TheVariants.{Yes, No}
-use Rattle.vrx_core.specs.Chain.{InChain}
-use Rattle.vrx_core.specs.HonestSender.{Carried, IsPart, Travels, HonestSender}
-use Rattle.vrx_core.specs.HonestNetwork.{FromSender, Elsewhere, taken}
+use Rattle.vrx_core.specs.honest.Chain.{InChain}
+use Rattle.vrx_core.specs.honest.HonestSender.{Carried, IsPart, Travels, HonestSender}
+use Rattle.vrx_core.specs.honest.HonestNetwork.{FromSender, Elsewhere, taken}
 use Rattle.vrx_core.specs.declared.settings.Settings.{Settings}
 use Rattle.vrx_text.specs.Transcript.{line_feed}
 use Rattle.vrx_text.proofs.OnLiterals.{text_on_literals}
@@ -120,7 +120,7 @@ are_octets octets h = All-from_recursion (λ octet. octet < 256) octets (each oc
 first_is : IsPart settings vp8 sender 0 keyframe 3 0 0 first_part
 first_is = record {
   sent = refl;
-  media = record { size = omega arith; below = are_octets first_text refl; reads = refl; no_padding = refl; number = refl; type = refl; source = refl; payload = λ e. cc; part_reads = refl; no_rtcp = λ r. absurd (omega (arith, r.at_most)); layers = refl };
+  media = record { size = omega arith; below = are_octets first_text refl; reads = refl; no_padding = refl; number = refl; type = refl; source = refl; payload = λ e. cc; part_reads = refl; layers = refl };
   timestamp = refl;
   marker = (λ e. cc, λ e. absurd (omega arith));
   start = refl;
@@ -129,7 +129,7 @@ first_is = record {
 second_is : IsPart settings vp8 sender 0 keyframe 3 1 1 second_part
 second_is = record {
   sent = refl;
-  media = record { size = omega arith; below = are_octets second_text refl; reads = refl; no_padding = refl; number = refl; type = refl; source = refl; payload = λ e. cc; part_reads = refl; no_rtcp = λ r. absurd (omega (arith, r.at_most)); layers = refl };
+  media = record { size = omega arith; below = are_octets second_text refl; reads = refl; no_padding = refl; number = refl; type = refl; source = refl; payload = λ e. cc; part_reads = refl; layers = refl };
   timestamp = refl;
   marker = (λ e. cc, λ e. absurd (omega arith));
   start = λ same. omega arith;
@@ -138,7 +138,7 @@ second_is = record {
 third_is : IsPart settings vp8 sender 0 keyframe 3 2 2 third_part
 third_is = record {
   sent = refl;
-  media = record { size = omega arith; below = are_octets third_text refl; reads = refl; no_padding = refl; number = refl; type = refl; source = refl; payload = λ e. cc; part_reads = refl; no_rtcp = λ r. absurd (omega (arith, r.at_most)); layers = refl };
+  media = record { size = omega arith; below = are_octets third_text refl; reads = refl; no_padding = refl; number = refl; type = refl; source = refl; payload = λ e. cc; part_reads = refl; layers = refl };
   timestamp = refl;
   marker = (λ e. refl, λ e. refl);
   start = λ same. omega arith;
@@ -162,7 +162,7 @@ sender-honest = record {
   parts = λ f. first_part ∷ second_part ∷ third_part ∷ [];
   travels = elim [ zero ↦ keyframe_travels | suc f ↦ tt ];
   in_order = λ f g less within. absurd (omega arith);
-  no_other = λ i within. (0, omega arith, omega arith, omega arith);
+  no_other = λ i within. inr (0, omega arith, omega arith, omega arith);
   from_key = refl;
   references = elim [ zero ↦ All-nil (λ g. InChain sender 0 g) | suc f ↦ tt ];
   apart = elim [ zero ↦ tt | suc f ↦ tt ];

@@ -2,30 +2,18 @@
 use Rattle.std.proofs.Common.{◌≡◌, ◌≢◌, ◌⊎◌, ℕ, ◌≤◌, Bool, true, false, List, length, sym, ◌∙◌, ap, inl, inr}
 use Rattle.std.specs.Prelude.{Some, None, Result, Ok, Err, IfOk}
 use Rattle.vrx_num.specs.declared.no_memory.NoMemory.{NoMemory}
-use Rattle.vrx_core.specs.SettingsFault.{fault_of}
+use Rattle.vrx_core.specs.machine.SettingsFault.{fault_of}
 use Rattle.vrx_core.specs.declared.settings.Settings.{Settings}
 use Rattle.vrx_core.specs.declared.settings.NewFault.{NewFault}
 use Rattle.vrx_core.specs.declared.settings.NewFault.TheVariants as faults
 use Rattle.vrx_text.specs.Line.{longest_line}
 use Rattle.vrx_text.specs.SettingsLine.{settings_in}
 use Rattle.vrx_text.specs.declared.settings_line.CodecName.{CodecName}
-use Rattle.vrx_text.specs.declared.settings_line.CodecName.TheVariants.{Vp8, H264}
-use Rattle.vrx_text.specs.declared.transcript.ErrorReason.{ErrorReason}
 use Rattle.vrx_text.specs.declared.transcript.ErrorReason.TheVariants as errors
 use Rattle.vrx_program.specs.Replay.{taken, accepted, settings_of}
 use Rattle.vrx_program.specs.Inspect.{is_right, tells_right, is_head}
-use Rattle.vrx_program.specs.Plays.{hindrance_of}
-use Rattle.vrx_program.specs.declared.replay.Unopened.{Unopened}
-use Rattle.vrx_program.specs.declared.replay.Unopened.TheVariants as unopened
-use Rattle.vrx_program.proofs.PlaysLemmas.{settings-short}
-use Rattle.vrx_program.proofs.LooksLemmas.{head-short}
-
--- refusals are the same where their reasons are
-pub same_refusal : {A : Type 0} (a b : ErrorReason) → ◌≡◌ {A = Result A Unopened} (Err (unopened.Refused a)) (Err (unopened.Refused b)) → a ≡ b
-same_refusal a b e = cc e
-
-pub same_hindrance : {A : Type 0} (a : Unopened) (b : ErrorReason) → ◌≡◌ {A = Result A Unopened} (Err a) (Err (unopened.Refused b)) → a ≡ unopened.Refused b
-same_hindrance a b e = cc e
+use Rattle.vrx_program.proofs.ReplayLemmas.{settings-short}
+use Rattle.vrx_program.proofs.InspectLemmas.{head-short}
 
 module _ (line : List ℕ) (short : length line ≤ longest_line) where
   -- the line tells no settings
@@ -37,34 +25,11 @@ module _ (line : List ℕ) (short : length line ≤ longest_line) where
 
   -- it tells these settings
   module _ (codec : CodecName) (settings : Settings) (told : settings_in line ≡ Some (codec, settings)) where
-    told-is : settings_of line ≡ taken codec settings (fault_of settings)
+    pub told-is : settings_of line ≡ taken codec settings (fault_of settings)
     told-is = settings-short line short ∙ ap accepted told
 
     head-is : is_head line ≡ is_right (fault_of settings)
     head-is = head-short line short ∙ ap tells_right told
-
-    pub settings-taken : codec ≡ Vp8 → fault_of settings ≡ None → settings_of line ≡ Ok settings
-    settings-taken is none = told-is ∙ ap (taken codec settings) none ∙ ap (λ c. taken c settings None) is
-
-    pub settings-later : codec ≡ H264 → fault_of settings ≡ None → settings_of line ≡ Err errors.Later
-    settings-later is none = told-is ∙ ap (taken codec settings) none ∙ ap (λ c. taken c settings None) is
-
-    pub settings-refused : (fault : NewFault) (reason : ErrorReason) → (fault ≡ faults.NoMemory) ⊎ (fault_of settings ≡ Some fault) → hindrance_of fault ≡ unopened.Refused reason → settings_of line ≡ Err reason
-    settings-refused fault reason (inl memory) is = absurd (never (sym (ap hindrance_of memory) ∙ is)) where
-      never : unopened.NoMemory ≡ unopened.Refused reason → ⊥
-      never e = cc e
-    settings-refused fault reason (inr has) is = told-is ∙ ap (taken codec settings) has ∙ by_fault fault is where
-      same : (a b : ErrorReason) → unopened.Refused a ≡ unopened.Refused b → a ≡ b
-      same a b e = cc e
-
-      by_fault : (f : NewFault) → hindrance_of f ≡ unopened.Refused reason → taken codec settings (Some f) ≡ Err reason
-      by_fault faults.BadType e = ap Err (same errors.Settings reason e)
-      by_fault faults.SameType e = ap Err (same errors.Settings reason e)
-      by_fault faults.SameSsrc e = ap Err (same errors.Settings reason e)
-      by_fault faults.RedMissing e = ap Err (same errors.Settings reason e)
-      by_fault faults.BadInterval e = ap Err (same errors.Settings reason e)
-      by_fault faults.Later e = ap Err (same errors.Later reason e)
-      by_fault faults.NoMemory e = cc e
 
     pub head-taken : fault_of settings ≡ None → is_head line ≡ true
     head-taken none = head-is ∙ ap is_right none

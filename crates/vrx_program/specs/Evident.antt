@@ -1,9 +1,9 @@
 -- Where the frames of VP8 begin.
 use Rattle.std.specs.Prelude.{ℕ, List}
 use Rattle.vrx_vp8.specs.Descriptor.{vp8}
-use Rattle.vrx_core.specs.Sender.{Sender, Spans}
-use Rattle.vrx_core.specs.HonestSender.{HonestSender}
-use Rattle.vrx_core.specs.Ready.{BeginsEvidently}
+use Rattle.vrx_core.specs.honest.Sender.{Sender, Spans}
+use Rattle.vrx_core.specs.honest.HonestSender.{HonestSender}
+use Rattle.vrx_core.specs.honest.Ready.{BeginsEvidently}
 use Rattle.vrx_core.specs.declared.settings.Settings.{Settings}
 use Rattle.vrx_core.specs.declared.event.Event.{Event}
 

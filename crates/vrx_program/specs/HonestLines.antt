@@ -1,15 +1,14 @@
 -- The lines of an honest call.
 use Rattle.std.specs.Prelude.{◌≡◌, ◌⊎◌, ℕ, List, [], ◌∷◌, ◌++◌, map, Option, Ok, IsOkAnd}
-use Rattle.vrx_vp8.specs.Descriptor.{vp8}
-use Rattle.vrx_core.specs.Machine.{Reply, replies}
-use Rattle.vrx_core.specs.Sender.{Sender}
-use Rattle.vrx_core.specs.HonestSender.{HonestSender}
-use Rattle.vrx_core.specs.HonestNetwork.{Origin, HonestNetwork}
-use Rattle.vrx_core.specs.HonestCall.{HonestCall}
+use Rattle.vrx_core.specs.machine.Machine.{Reply, replies}
+use Rattle.vrx_core.specs.honest.Sender.{Sender}
+use Rattle.vrx_core.specs.honest.HonestSender.{HonestSender}
+use Rattle.vrx_core.specs.honest.HonestNetwork.{Origin, HonestNetwork}
+use Rattle.vrx_core.specs.honest.HonestCall.{HonestCall}
 use Rattle.vrx_core.specs.declared.event.Event.{Event}
 use Rattle.vrx_text.specs.Transcript.{text_of}
 use Rattle.vrx_io.specs.Sink.{extended}
-use Rattle.vrx_program.specs.Replay.{Call, call_of}
+use Rattle.vrx_program.specs.Replay.{Call, call_of, meaning_of}
 use Rattle.vrx_program.specs.Outcome.{error_text}
 use Rattle.vrx_program.specs.Ends.{TookFront}
 use Rattle.vrx_program.specs.declared.status.Status.{Status}
@@ -22,7 +21,7 @@ events_of call = map (λ line. line.1) call.events
 -- a capture's datagrams are what an honest network took from this sender, up to the first bad line
 abbrev pub IsHonestCapture : List ℕ → Sender → List Origin → Type 0
 IsHonestCapture capture sender origins = IsOkAnd (call_of capture) (λ call.
-    HonestSender call.settings vp8 sender × HonestNetwork call.settings vp8 sender [] [] (events_of call) origins)
+    HonestSender call.settings (meaning_of call.codec) sender × HonestNetwork call.settings (meaning_of call.codec) sender [] [] (events_of call) origins)
 
 -- the lines of replies, each with the number of its event's line
 abbrev pub lines_text : List (ℕ × Event) → List Reply → List ℕ
@@ -32,7 +31,7 @@ lines_text (line ∷ lines) (reply ∷ replies) = text_of line.0 reply ++ lines_
 
 -- the machine's replies to the events of a call
 abbrev pub replies_of : Call → List Reply
-replies_of call = replies call.settings vp8 [] (events_of call)
+replies_of call = replies call.settings (meaning_of call.codec) [] (events_of call)
 
 -- the text of a call: the lines of the machine's replies, and then the error line, where a line is bad
 abbrev pub call_text : Call → List ℕ
@@ -45,6 +44,6 @@ call_text call = lines_text call.events (replies_of call) ++ error_text call.bad
 pub record HonestLines (capture : List ℕ) (sender : Sender) (origins : List Origin) (status : Status) (before after : Option (List ℕ)) : Type 0 where
   pub call : Call
   pub told : call_of capture ≡ Ok call
-  pub honest : HonestCall call.settings vp8 sender (events_of call) origins (replies_of call)
+  pub honest : HonestCall call.settings (meaning_of call.codec) sender (events_of call) origins (replies_of call)
   pub took : TookFront before after (call_text call)
   pub whole : (status ≡ Done) ⊎ (status ≡ BadCapture) → after ≡ extended before (call_text call)

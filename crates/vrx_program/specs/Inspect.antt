@@ -1,7 +1,7 @@
 -- What an inspection of a capture gives: a status and a text.
 use Rattle.std.specs.Prelude.{ℕ, Bool, true, false, nat_lt, if◌then◌else◌, List, [], ◌∷◌, ◌++◌, length, Option, Some, None}
 use Rattle.std.specs.Option.{option_map}
-use Rattle.vrx_core.specs.SettingsFault.{fault_of}
+use Rattle.vrx_core.specs.machine.SettingsFault.{fault_of}
 use Rattle.vrx_core.specs.declared.settings.Settings.{Settings}
 use Rattle.vrx_core.specs.declared.settings.NewFault.{NewFault}
 use Rattle.vrx_core.specs.declared.settings.NewFault.TheVariants as faults
@@ -16,7 +16,7 @@ use Rattle.vrx_text.specs.declared.settings_line.CodecName.{CodecName}
 use Rattle.vrx_text.specs.declared.transcript.ErrorReason.{ErrorReason}
 use Rattle.vrx_text.specs.declared.transcript.ErrorReason.TheVariants as errors
 use Rattle.vrx_program.specs.Outcome.{Outcome, refused, status_of, error_text}
-use Rattle.vrx_program.specs.Replay.{most_events}
+use Rattle.vrx_program.specs.Job.{Answering, most_events, bad_line}
 
 -- settings without a fault are right, whatever the codec; and so are those whose only fault is that a replay doesn't
 -- take them so far
@@ -44,10 +44,6 @@ unfoldable pub inspections : List (ℕ × Event) → List ℕ
 inspections [] = []
 inspections ((k, event) ∷ lines) = inspected_event k event ++ inspections lines
 
--- a bad line, with its reason
-abbrev pub bad_line : ℕ × LineReason → ℕ × ErrorReason
-bad_line (k, reason) = (k, errors.Line reason)
-
 -- what the inspection of lines gives that give this reading
 abbrev pub inspected_reading : Reading → Outcome
 inspected_reading r = let bad : Option (ℕ × ErrorReason) = option_map bad_line r.bad in record { status = status_of bad; told = inspections r.events; last = error_text bad }
@@ -65,3 +61,7 @@ inspected_lines (line ∷ lines) = inspected_from (is_head line) lines
 -- what the inspection of a capture gives
 abbrev pub inspected : List ℕ → Outcome
 inspected capture = inspected_lines (lines_of capture)
+
+-- what an inspection does with each event
+abbrev pub inspecting : Answering
+inspecting = record { text = λ h k event. inspected_event k event; refuses = λ event. None }

@@ -1,11 +1,14 @@
 pub mod Outcome
+pub mod Job
+pub mod Heads
+pub mod Counts
 pub mod Replay
+pub mod Replays
 pub mod Inspect
 pub mod Words
 pub mod Ends
 pub mod Evident
 pub mod HasRead
-pub mod Plays
-pub mod Looks
+pub mod Runs
 pub mod HonestLines
 pub mod Number

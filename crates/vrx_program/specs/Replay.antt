@@ -1,7 +1,9 @@
 -- What a replay of a capture gives: a status and a text.
 use Rattle.std.specs.Prelude.{ℕ, nat_lt, if◌then◌else◌, List, [], ◌∷◌, length, Option, Some, None, Result, Ok, Err}
+use Rattle.vrx_codec.specs.Meaning.{Meaning}
 use Rattle.vrx_vp8.specs.Descriptor.{vp8}
-use Rattle.vrx_core.specs.SettingsFault.{fault_of}
+use Rattle.vrx_h264.specs.AccessUnit.{h264}
+use Rattle.vrx_core.specs.machine.SettingsFault.{fault_of}
 use Rattle.vrx_core.specs.declared.settings.Settings.{Settings}
 use Rattle.vrx_core.specs.declared.settings.NewFault.{NewFault}
 use Rattle.vrx_core.specs.declared.settings.NewFault.TheVariants as faults
@@ -16,32 +18,39 @@ use Rattle.vrx_text.specs.declared.settings_line.CodecName.{CodecName}
 use Rattle.vrx_text.specs.declared.settings_line.CodecName.TheVariants.{Vp8, H264}
 use Rattle.vrx_text.specs.declared.transcript.ErrorReason.{ErrorReason}
 use Rattle.vrx_text.specs.declared.transcript.ErrorReason.TheVariants as errors
+use Rattle.vrx_text.specs.Transcript.{text_of}
+use Rattle.vrx_core.specs.machine.Machine.{reply}
 use Rattle.vrx_program.specs.Outcome.{Outcome, refused, status_of, error_text}
+pub use Rattle.vrx_program.specs.Job.{most_events}
+use Rattle.vrx_program.specs.Job.{Answering}
+use Rattle.vrx_program.specs.declared.job.Unanswered.{Unanswered}
+use Rattle.vrx_program.specs.declared.job.Unanswered.TheVariants as unanswered
 
--- an engine takes so many events at most
-abbrev pub most_events : ℕ
-most_events = 1048576
+-- what the codec of a settings line means (RFC 7741, RFC 6184)
+abbrev pub meaning_of : CodecName → Meaning
+meaning_of Vp8 = vp8
+meaning_of H264 = h264
 
--- settings with this codec and this fault, if any: the fault is the line's; but RED, retransmissions and H.264 are
--- right, and not taken so far
-abbrev pub taken : CodecName → Settings → Option NewFault → Result Settings ErrorReason
+-- a codec and settings with this fault, if any: the fault is the line's; but RED and retransmissions are right, and not
+-- taken so far
+abbrev pub taken : CodecName → Settings → Option NewFault → Result (CodecName × Settings) ErrorReason
 taken codec settings (Some faults.Later) = Err errors.Later
 taken codec settings (Some fault) = Err errors.Settings
-taken Vp8 settings None = Ok settings
-taken H264 settings None = Err errors.Later
+taken codec settings None = Ok (codec, settings)
 
--- the settings that a settings line tells, or why it is refused
-abbrev pub accepted : Option (CodecName × Settings) → Result Settings ErrorReason
+-- the codec and the settings that a settings line tells, or why it is refused
+abbrev pub accepted : Option (CodecName × Settings) → Result (CodecName × Settings) ErrorReason
 accepted None = Err errors.Settings
 accepted (Some (codec, settings)) = taken codec settings (fault_of settings)
 
--- the settings that the first line tells, or why it is refused
-unfoldable pub settings_of : List ℕ → Result Settings ErrorReason
+-- the codec and the settings that the first line tells, or why it is refused
+unfoldable pub settings_of : List ℕ → Result (CodecName × Settings) ErrorReason
 settings_of line = if nat_lt longest_line (length line) then Err errors.Settings else accepted (settings_in line)
 
--- a call, as a capture tells it: its settings, its events in order, each with the number of its line, up to the first
--- line that is refused; and that line with the reason, where there is one
+-- a call, as a capture tells it: its codec and its settings, its events in order, each with the number of its line, up
+-- to the first line that is refused; and that line with the reason, where there is one
 pub record Call : Type 0 where
+  pub codec : CodecName
   pub settings : Settings
   pub events : List (ℕ × Event)
   pub bad : Option (ℕ × ErrorReason)
@@ -64,14 +73,14 @@ first_refused (Some k) bad = Some (k, errors.Later)
 first_refused None (Some (k, reason)) = Some (k, errors.Line reason)
 first_refused None None = None
 
--- the call with these settings, of what the lines behind the first give
-abbrev pub call_with : Settings → Reading → Call
-call_with settings r = record { settings = settings; events = before_tick r.events; bad = first_refused (first_tick r.events) r.bad }
+-- the call with this codec and these settings, of what the lines behind the first give
+abbrev pub call_with : CodecName × Settings → Reading → Call
+call_with told r = record { codec = told.0; settings = told.1; events = before_tick r.events; bad = first_refused (first_tick r.events) r.bad }
 
--- the call of the first line, which tells these settings or is refused, and of the others
-abbrev pub call_from : Result Settings ErrorReason → List (List ℕ) → Result Call ErrorReason
+-- the call of the first line, which tells a codec and settings or is refused, and of the others
+abbrev pub call_from : Result (CodecName × Settings) ErrorReason → List (List ℕ) → Result Call ErrorReason
 call_from (Err reason) lines = Err reason
-call_from (Ok settings) lines = Ok (call_with settings (reading most_events 2 0 lines))
+call_from (Ok told) lines = Ok (call_with told (reading most_events 2 0 lines))
 
 -- the call of these lines, or why the first is refused: an absent one tells no settings
 abbrev pub call_in : List (List ℕ) → Result Call ErrorReason
@@ -84,8 +93,23 @@ call_of capture = call_in (lines_of capture)
 -- what a replay of a call gives, or of a first line that is refused
 abbrev pub outcome_of : Result Call ErrorReason → Outcome
 outcome_of (Err reason) = refused reason
-outcome_of (Ok call) = record { status = status_of call.bad; told = transcript call.settings vp8 [] call.events; last = error_text call.bad }
+outcome_of (Ok call) = record { status = status_of call.bad; told = transcript call.settings (meaning_of call.codec) [] call.events; last = error_text call.bad }
 
 -- what a replay of a capture gives
 abbrev pub replayed : List ℕ → Outcome
 replayed capture = outcome_of (call_of capture)
+
+-- ticks are right, and refused for now
+abbrev pub refuses_tick : Event → Option ErrorReason
+refuses_tick (Tick moment) = Some errors.Later
+refuses_tick event = None
+
+-- what a replay does with each event: its text is that of the machine's reply
+abbrev pub replaying : Settings → Meaning → Answering
+replaying settings codec = record { text = λ h k event. text_of k (reply settings codec h event); refuses = refuses_tick }
+
+-- why no engine stands for settings with this fault: RED and retransmissions are right, and not taken yet
+abbrev pub hindrance_of : NewFault → Unanswered
+hindrance_of faults.NoMemory = unanswered.NoMemory
+hindrance_of faults.Later = unanswered.Refused errors.Later
+hindrance_of fault = unanswered.Refused errors.Settings

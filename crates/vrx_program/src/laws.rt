@@ -6,5 +6,5 @@ ghost use Rattle.vrx_program.specs.Evident.{Vp8BeginsHolds};
 /// with its first packet, since that packet says so: S = 1 and PID = 0 (RFC 7741 4.2). So such a frame stands
 /// complete where each of its packets is available and it lies beyond every frame pulled.
 pub fn vp8_begins_evidently()
-    ensures { Vp8BeginsHolds }
+    ensures begins { Vp8BeginsHolds }
 {}

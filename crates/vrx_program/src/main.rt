@@ -6,24 +6,28 @@
 ghost use Rattle.std.specs.Prelude.{◌≡◌, ◌≤◌, ◌↔◌, ◌⊎◌, List, map, IfSome, is_some};
 ghost use Rattle.std.specs.String.{string_bytes};
 ghost use Rattle.vrx_io.specs.Faults.{Rose};
-ghost use Rattle.vrx_core.specs.Sender.{Sender};
-ghost use Rattle.vrx_core.specs.HonestNetwork.{Origin};
+ghost use Rattle.vrx_core.specs.honest.Sender.{Sender};
+ghost use Rattle.vrx_core.specs.honest.HonestNetwork.{Origin};
 ghost use Rattle.vrx_program.specs.Words.{IsWord, gives};
+ghost use Rattle.vrx_program.specs.Counts.{IsCounted};
 ghost use Rattle.vrx_program.specs.Ends.{Ends};
+ghost use Rattle.vrx_program.specs.Runs.{ReadsInStep};
 ghost use Rattle.vrx_program.specs.HonestLines.{IsHonestCapture, HonestLines};
 
+mod driver;
 mod inspect;
+mod job;
 mod laws;
-mod refuse;
 mod replay;
 mod status;
 #[cfg(test)]
 mod tests;
 mod word;
 
-use crate::inspect::inspect;
+use crate::driver::drive;
+use crate::inspect::Inspect;
 pub use crate::laws::vp8_begins_evidently;
-use crate::replay::replay;
+use crate::replay::Replay;
 pub use crate::status::Status;
 pub use crate::word::Word;
 use crate::word::word_of;
@@ -56,7 +60,13 @@ pub fn run<S: Source, K: Sink>(
     ensures outcome { (word : Word) → IsWord word (map string_bytes words.now) → IfSome (S.left source.old) (λ capture.
         Ends (gives word) result capture (K.taken sink.old) (K.taken sink.new) (S.left source.new)) }
 
-    // A fault comes only where the object that was handed in counted one in this call.
+    // Of every status what was read: each read was made only once the text of every whole line read until then was
+    // written, and none of these lines was refused.
+    ensures in_step { (word : Word) → IsWord word (map string_bytes words.now) →
+        ReadsInStep (gives word) S.is_read S.left source.old source.new (K.taken sink.old) (K.taken sink.new) }
+
+    // Both counts of faults are as they were, but for the one that the status names, which rose.
+    ensures counted { IsCounted result (S.faults source.old) (S.faults source.new) (K.faults sink.old) (K.faults sink.new) }
     ensures read_fault { result ≡ Status.ReadFault →
         Rose (S.faults source.old) (S.faults source.new) }
     ensures write_fault { result ≡ Status.WriteFault →
@@ -80,8 +90,8 @@ pub fn run<S: Source, K: Sink>(
     honest_call();
     lines_join();
     match word_of(words) {
-        Some(Word::Replay) => replay(alloc, source, sink),
-        Some(Word::Inspect) => inspect(alloc, source, sink),
+        Some(Word::Replay) => drive::<Replay, S, K>(alloc, source, sink),
+        Some(Word::Inspect) => drive::<Inspect, S, K>(alloc, source, sink),
         None => Status::BadUsage,
     }
 }

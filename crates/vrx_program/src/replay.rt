@@ -1,211 +1,135 @@
 //! The word replay: a capture in, its transcript out.
 
-ghost use Rattle.std.specs.Prelude.{is_some, ◌≡◌, ◌≢◌, ℕ, ◌+◌, ◌<◌, ◌≤◌, List, [], ◌∷◌, Ok, Err, Option, Some, IfSome, IfNone, length, IfOk, MatchOption, vec_len};
-ghost use Rattle.std.specs.Option.{option_map};
-ghost use Rattle.vrx_io.specs.Faults.{Rose};
-ghost use Rattle.vrx_vp8.specs.Descriptor.{vp8};
-ghost use Rattle.vrx_core.specs.StandsFor.{StandsFor};
+ghost use Rattle.std.specs.Prelude.{◌≡◌, ◌+◌, ◌<◌, ◌≤◌, List, [], ◌∷◌, Ok, Err, Some, None, length, IfOk, IfErr, OnOk};
+ghost use Rattle.vrx_core.specs.machine.Machine.{reply};
+ghost use Rattle.vrx_core.specs.machine.SettingsFault.{fault_of};
+ghost use Rattle.vrx_core.specs.relation.StandsFor.{StandsFor};
 ghost use Rattle.vrx_core.specs.declared.event.Event.{Event};
-ghost use Rattle.vrx_text.specs.Line.{longest_line};
-ghost use Rattle.vrx_text.specs.Transcript.{error_line};
-ghost use Rattle.vrx_program.specs.Replay.{settings_of, replayed};
-ghost use Rattle.vrx_program.specs.Ends.{EndsOver};
-ghost use Rattle.vrx_program.specs.Plays.{IsAnswered, Happens, Plays, hindrance_of};
+ghost use Rattle.vrx_text.specs.Transcript.{text_of};
+ghost use Rattle.vrx_text.specs.declared.settings_line.CodecName.{CodecName};
+ghost use Rattle.vrx_program.specs.Job.{IfRefused};
+ghost use Rattle.vrx_program.specs.Replay.{refuses_tick, replayed, hindrance_of, taken};
+ghost use Rattle.vrx_program.specs.Replays.{replaying_by, HasReplayed, replayed_count};
 
-use crate::refuse::refuse;
-use crate::status::Status;
+use crate::job::{Job, Unanswered};
 use std::alloc::Global;
-use vrx_core::{Engine, Event, MOST_EVENTS, NewFault};
-use vrx_io::{Sink, Source, put};
+use vrx_codec::Codec;
+use vrx_core::{Engine, Event, NewFault, Settings};
+use vrx_h264::H264;
 use vrx_num::NoMemory;
-use vrx_text::{
-    CodecName, ErrorReason, HeadFault, Line, LineFault, Lines, lines_join, read_settings,
-    text_of_handled, text_of_pulled,
-};
+use vrx_text::{CodecName, ErrorReason, read_settings, text_of_handled, text_of_pulled};
 use vrx_vp8::Vp8;
 
-/// The text of the reply to an event: none to a tick, which isn't taken so far.
-fn answer(
+/// A replay: the engine of the codec that the first line tells.
+#[derive(Drop)]
+pub(crate) enum Replay {
+    /// It receives VP8.
+    Vp8(Engine<Vp8>),
+    /// It receives H.264.
+    H264(Engine<H264>),
+}
+
+/// A text, or that memory ran out.
+fn text_or_none(text: Result<Vec<u8>, NoMemory>) -> Result<Vec<u8>, Unanswered>
+    ensures ok { IfOk result (λ octets. text ≡ Ok octets) }
+    ensures err { IfErr result (λ why. why ≡ Unanswered.NoMemory) }
+{
+    match text {
+        Ok(text) => Ok(text),
+        Err(_) => Err(Unanswered::NoMemory),
+    }
+}
+
+/// The text of an engine's reply to an event. Ticks are refused.
+fn reply_of<C: Codec>(
     alloc: Global,
-    engine: &mut Engine<Vp8>,
+    engine: &mut Engine<C>,
     k: u32,
     event: &Event,
-) -> Result<Option<Vec<u8>>, NoMemory>
-    requires { engine.old.events < 1048576 }
-    ensures answered { (h : List Event) → StandsFor vp8 engine.old h → IfOk result (λ text.
-        IsAnswered engine.old engine.new h k event.now (option_map (λ t. t.items) text)) }
-    ensures counted { IfOk result (λ text. IfSome text (λ _. engine.new.events ≡ engine.old.events + 1)) }
+) -> Result<Vec<u8>, Unanswered>
+    requires room { engine.old.events < 1048576 }
+    ensures text { (h : List Event) → StandsFor C.meaning engine.old h →
+        IfOk result (λ text. text.items ≡ text_of k (reply engine.old.settings C.meaning h event.now)) }
+    ensures stands { (h : List Event) → StandsFor C.meaning engine.old h →
+        OnOk result (StandsFor C.meaning engine.new (event.now ∷ h)) }
+    ensures accepted { OnOk result (refuses_tick event.now ≡ None) }
+    ensures refused { IfErr result (λ why. IfRefused why (λ reason. refuses_tick event.now ≡ Some reason)) }
     ensures settings { engine.new.settings ≡ engine.old.settings }
+    ensures counted { OnOk result (engine.new.events ≡ engine.old.events + 1) }
 {
     match event {
-        Event::Datagram { moment, bytes } => {
-            let handled = engine.datagram(*moment, bytes.as_slice())?;
-            Ok(Some(text_of_handled(alloc, k, &handled)?))
-        }
-        Event::Tick { .. } => Ok(None),
-        Event::Pull { moment } => {
-            let pulled = engine.pull(*moment)?;
-            Ok(Some(text_of_pulled(alloc, k, &pulled)?))
-        }
-    }
-}
-
-/// Takes the event of a line, and writes the text of its reply as one piece. A status ends the run.
-fn happen<K: Sink>(
-    alloc: Global,
-    engine: &mut Engine<Vp8>,
-    k: u32,
-    event: &Event,
-    sink: &mut K,
-) -> Option<Status>
-    requires { engine.old.events < 1048576 }
-    ensures happens { (h : List Event) → StandsFor vp8 engine.old h → Happens engine.old engine.new h k event.now result (K.taken sink.old) (K.taken sink.new) }
-    ensures settings { engine.new.settings ≡ engine.old.settings }
-    ensures counted { IfNone result (engine.new.events ≡ engine.old.events + 1) }
-    ensures status { (result ≢ Some Status.BadUsage) × (result ≢ Some Status.ReadFault) }
-    ensures cause { result ≡ Some Status.WriteFault → Rose (K.faults sink.old) (K.faults sink.new) }
-    ensures later { K.faults sink.old ≤ K.faults sink.new }
-{
-    match answer(alloc, engine, k, event) {
-        Ok(Some(text)) => match put(sink, text.as_slice()) {
-            Ok(()) => None,
-            Err(_) => Some(Status::WriteFault),
+        Event::Datagram { moment, bytes } => match engine.datagram(*moment, bytes.as_slice()) {
+            Ok(handled) => text_or_none(text_of_handled(alloc, k, &handled)),
+            Err(_) => Err(Unanswered::NoMemory),
         },
-        Ok(None) => Some(refuse(alloc, k, ErrorReason::Later, sink)),
-        Err(_) => Some(Status::NoMemory),
+        Event::Tick { .. } => Err(Unanswered::Refused(ErrorReason::Later)),
+        Event::Pull { moment } => match engine.pull(*moment) {
+            Ok(pulled) => text_or_none(text_of_pulled(alloc, k, &pulled)),
+            Err(_) => Err(Unanswered::NoMemory),
+        },
     }
 }
 
-/// Takes the next event of a capture and writes the text of its reply. A status ends the run.
-fn step<S: Source, K: Sink>(
-    alloc: Global,
-    engine: &mut Engine<Vp8>,
-    lines: &mut Lines,
-    source: &mut S,
-    sink: &mut K,
-) -> Option<Status>
-    requires room { lines.old.max ≡ 1048576 }
-    requires count { engine.old.events ≡ lines.old.events }
-    ensures plays { (before opening : Option (List ℕ)) → Plays before opening engine.old lines.old (S.left source.old) (K.taken sink.old) → MatchOption result
-        (Plays before opening engine.new lines.new (S.left source.new) (K.taken sink.new))
-        (λ status. EndsOver replayed status before opening (S.left source.new) (K.taken sink.new)) }
-    ensures counted { IfNone result ((engine.new.events ≡ lines.new.events) × (lines.new.events ≡ lines.old.events + 1) × (lines.new.events ≤ 1048576)) }
-    ensures room { lines.new.max ≡ lines.old.max }
-    ensures status { result ≢ Some Status.BadUsage }
-    ensures read_fault { result ≡ Some Status.ReadFault →
-        Rose (S.faults source.old) (S.faults source.new) }
-    ensures write_fault { result ≡ Some Status.WriteFault →
-        Rose (K.faults sink.old) (K.faults sink.new) }
-    ensures tells { is_some (S.left source.new) ≡ is_some (S.left source.old) }
-    ensures read_later { S.faults source.old ≤ S.faults source.new }
-    ensures write_later { K.faults sink.old ≤ K.faults sink.new }
-{
-    lines_join();
-    match lines.next(source) {
-        Ok(Line::Event { k, event }) => happen(alloc, engine, k, &event, sink),
-        Ok(Line::End) => Some(Status::Done),
-        Err(LineFault::Bad { k, reason }) => {
-            Some(refuse(alloc, k, ErrorReason::Line(reason), sink))
-        }
-        Err(LineFault::ReadFault) => Some(Status::ReadFault),
-        Err(LineFault::NoMemory) => Some(Status::NoMemory),
-    }
-}
-
-/// Replays the events of a capture, behind its settings line.
-fn play<S: Source, K: Sink>(
-    alloc: Global,
-    mut engine: Engine<Vp8>,
-    mut lines: Lines,
-    source: &mut S,
-    sink: &mut K,
-) -> Status
-    requires room { lines.max ≡ 1048576 }
-    requires count { (lines.events ≡ 0) × (engine.events ≡ 0) }
-    ensures ends { (before opening : Option (List ℕ)) → Plays before opening engine lines (S.left source.old) (K.taken sink.old) → EndsOver replayed result before opening (S.left source.new) (K.taken sink.new) }
-    ensures status { result ≢ Status.BadUsage }
-    ensures read_fault { result ≡ Status.ReadFault →
-        Rose (S.faults source.old) (S.faults source.new) }
-    ensures write_fault { result ≡ Status.WriteFault →
-        Rose (K.faults sink.old) (K.faults sink.new) }
-    ensures tells { is_some (S.left source.new) ≡ is_some (S.left source.old) }
-    ensures read_later { S.faults source.old ≤ S.faults source.new }
-    ensures write_later { K.faults sink.old ≤ K.faults sink.new }
-{
-    'events: loop {
-        if let Some(status) = step(alloc, &mut engine, &mut lines, source, sink) {
-            return status;
-        }
-    }
-}
-
-/// Why no engine stands for the settings line.
-enum Unopened {
-    /// The line is refused.
-    Refused(ErrorReason),
-    /// No memory was to be had.
-    NoMemory,
-}
-
-/// Why no engine stands for settings with a fault: RED and retransmissions are right, and not taken so far.
-fn hindered_by(fault: NewFault) -> Unopened
-    ensures { result ≡ hindrance_of fault }
+/// Why no engine stands for settings with a fault: RED and retransmissions are right, and not taken yet.
+fn hindered_by(fault: NewFault) -> Unanswered
+    ensures reason { result ≡ hindrance_of fault }
 {
     match fault {
-        NewFault::NoMemory => Unopened::NoMemory,
-        NewFault::Later => Unopened::Refused(ErrorReason::Later),
-        NewFault::BadType => Unopened::Refused(ErrorReason::Settings),
-        NewFault::SameType => Unopened::Refused(ErrorReason::Settings),
-        NewFault::SameSsrc => Unopened::Refused(ErrorReason::Settings),
-        NewFault::RedMissing => Unopened::Refused(ErrorReason::Settings),
-        NewFault::BadInterval => Unopened::Refused(ErrorReason::Settings),
+        NewFault::NoMemory => Unanswered::NoMemory,
+        NewFault::Later => Unanswered::Refused(ErrorReason::Later),
+        NewFault::BadType => Unanswered::Refused(ErrorReason::Settings),
+        NewFault::SameType => Unanswered::Refused(ErrorReason::Settings),
+        NewFault::SameSsrc => Unanswered::Refused(ErrorReason::Settings),
+        NewFault::RedMissing => Unanswered::Refused(ErrorReason::Settings),
+        NewFault::BadInterval => Unanswered::Refused(ErrorReason::Settings),
     }
 }
 
-/// The engine that the settings line of a capture asks for, where the line isn't refused. H.264 isn't taken so far.
-fn opened(alloc: Global, line: &[u8]) -> Result<Engine<Vp8>, Unopened>
-    requires { length line.now ≤ longest_line }
-    ensures settings { IfOk result (λ engine. settings_of line.now ≡ Ok engine.settings) }
-    ensures stands { IfOk result (λ engine. StandsFor vp8 engine []) }
-    ensures refused { (reason : ErrorReason) → result ≡ Err (Unopened.Refused reason) → settings_of line.now ≡ Err reason }
+/// The engine of settings, if they have no fault.
+fn opened<C: Codec>(alloc: Global, settings: Settings) -> Result<Engine<C>, Unanswered>
+    ensures settings { IfOk result (λ engine. (fault_of settings ≡ None) × (engine.settings ≡ settings)) }
+    ensures stands { IfOk result (λ engine. StandsFor C.meaning engine []) }
+    ensures count { IfOk result (λ engine. engine.events ≡ 0) }
+    ensures refused { IfErr result (λ why. IfRefused why (λ reason.
+        (name : CodecName) → taken name settings (fault_of settings) ≡ Err reason)) }
 {
-    let Some((codec, settings)) = read_settings(line) else {
-        return Err(Unopened::Refused(ErrorReason::Settings));
-    };
-    match Engine::<Vp8>::new(alloc, settings) {
-        Ok(engine) => match codec {
-            CodecName::Vp8 => Ok(engine),
-            CodecName::H264 => Err(Unopened::Refused(ErrorReason::Later)),
-        },
+    match Engine::<C>::new(alloc, settings) {
+        Ok(engine) => Ok(engine),
         Err(fault) => Err(hindered_by(fault)),
     }
 }
 
-/// Replays a capture.
-pub(crate) fn replay<S: Source, K: Sink>(alloc: Global, source: &mut S, sink: &mut K) -> Status
-    ensures ends { EndsOver replayed result (S.left source.old) (K.taken sink.old) (S.left source.new) (K.taken sink.new) }
-    ensures status { result ≢ Status.BadUsage }
-    ensures read_fault { result ≡ Status.ReadFault →
-        Rose (S.faults source.old) (S.faults source.new) }
-    ensures write_fault { result ≡ Status.WriteFault →
-        Rose (K.faults sink.old) (K.faults sink.new) }
-    ensures tells { is_some (S.left source.new) ≡ is_some (S.left source.old) }
-    ensures read_later { S.faults source.old ≤ S.faults source.new }
-    ensures write_later { K.faults sink.old ≤ K.faults sink.new }
-{
-    lines_join();
-    let Ok(mut lines) = Lines::new(alloc, MOST_EVENTS) else {
-        return Status::NoMemory;
-    };
-    let line = match lines.head(source) {
-        Ok(Some(line)) => line,
-        Ok(None) => return refuse(alloc, 1, ErrorReason::Settings, sink),
-        Err(HeadFault::ReadFault) => return Status::ReadFault,
-        Err(HeadFault::NoMemory) => return Status::NoMemory,
-    };
-    match opened(alloc, line.as_slice()) {
-        Ok(engine) => play(alloc, engine, lines, source, sink),
-        Err(Unopened::Refused(reason)) => refuse(alloc, 1, reason, sink),
-        Err(Unopened::NoMemory) => Status::NoMemory,
+impl Job for Replay {
+    ghost outcome = { replayed };
+
+    ghost answering = { replaying_by };
+
+    ghost answered = { HasReplayed };
+
+    ghost count = { replayed_count };
+
+    fn refuses_heads() {}
+
+    fn begin(alloc: Global, line: &[u8]) -> Result<Replay, Unanswered> {
+        let Some((codec, settings)) = read_settings(line) else {
+            return Err(Unanswered::Refused(ErrorReason::Settings));
+        };
+        match codec {
+            CodecName::Vp8 => match opened::<Vp8>(alloc, settings) {
+                Ok(engine) => Ok(Replay::Vp8(engine)),
+                Err(why) => Err(why),
+            },
+            CodecName::H264 => match opened::<H264>(alloc, settings) {
+                Ok(engine) => Ok(Replay::H264(engine)),
+                Err(why) => Err(why),
+            },
+        }
+    }
+
+    fn answer(&mut self, alloc: Global, k: u32, event: &Event) -> Result<Vec<u8>, Unanswered> {
+        match self {
+            Replay::Vp8(engine) => reply_of(alloc, engine, k, event),
+            Replay::H264(engine) => reply_of(alloc, engine, k, event),
+        }
     }
 }

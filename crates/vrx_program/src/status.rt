@@ -24,7 +24,7 @@ pub enum Status {
 impl Status {
     /// The number with which the program ends.
     pub fn number(self) -> u8
-        ensures { result ≡ number_of self }
+        ensures number { result ≡ number_of self }
     {
         match self {
             Status::Done => 0,
@@ -38,7 +38,7 @@ impl Status {
 
     /// What to tell a person, where the run wasn't done.
     pub fn cause(self) -> Option<&'static str>
-        ensures { option_map (λ text. text.now) result ≡ cause_of self }
+        ensures cause { option_map (λ text. text.now) result ≡ cause_of self }
     {
         match self {
             Status::Done => None,

@@ -1,4 +1,4 @@
--- The laws of compound packets, for proofs of crates above.
+-- The laws of compound packets.
 use Rattle.std.proofs.Common.{◌≡◌, ◌≢◌, ℕ, zero, suc, ◌+◌, ◌-◌, ◌<◌, ◌≤◌, ◌⊎◌, Option, None, Some, List, [], ◌∷◌, ◌++◌, length, take, drop, refl, sym, ap, subst, ◌∙◌, append_assoc, arith, inl, inr}
 use Rattle.std.specs.Option.{option_map}
 use Rattle.std.proofs.lemmas.List.{take-append-drop, drop-drop, drop_all, length-take, length-drop, length-append, take_at, drop_at, append-nil, nil_from_length}
@@ -42,7 +42,7 @@ same_front p q x y is_p is_q same =
     let says : p.message ≡ q.message = sym reads_p.message ∙ ap message same ∙ reads_q.message in
     record { same = same_parts p.octets q.octets p.message q.message front says; rest = behind }
 
-joined-cons : (p : Spelled) (ps : List Spelled) (behind : List ℕ) → joined (p ∷ ps) ++ behind ≡ p.octets ++ (joined ps ++ behind)
+pub joined-cons : (p : Spelled) (ps : List Spelled) (behind : List ℕ) → joined (p ∷ ps) ++ behind ≡ p.octets ++ (joined ps ++ behind)
 joined-cons p ps behind = ap (λ (x : List ℕ). x ++ behind) (flat_map-cons (λ (p : Spelled). p.octets) p ps) ∙ append_assoc p.octets (joined ps) behind
 
 -- octets divide into packets and an end in one way
@@ -95,12 +95,12 @@ one_fault datagram e f a b =
     let kinds : e.kind ≡ f.kind = some_is e.kind f.kind (sym a.kind ∙ ap first_fault same.behind ∙ b.kind) in
     same_fault e.kind f.kind e.at f.at kinds (a.at ∙ ap (λ (ps : List Spelled). length (joined ps)) same.packets ∙ sym b.at)
 
--- and none where it is a compound
+-- and none if it is a compound
 pub not_both : (datagram : List ℕ) (packets : List Spelled) (fault : RtcpFault) → IsCompound datagram packets → HasFault datagram fault → ⊥
 not_both datagram packets fault is has =
     has.remain (sym (one_division datagram packets has.before [] has.behind (compound_divides datagram packets is) (fault_divides datagram fault has)).behind)
 
--- some packets, and the end behind them
+-- some packets, and the end after them
 pub record Division (octets : List ℕ) : Type 0 where
   pub packets : List Spelled
   pub behind : List ℕ
@@ -196,7 +196,7 @@ pub begins_whole : (datagram : List ℕ) (place number : ℕ) → Begins datagra
 begins_whole datagram place number is ended =
     (is.packets, record { spelled = is.spelled ∙ ap (λ (x : List ℕ). joined is.packets ++ x) (drop_all place datagram ended) ∙ append-nil (joined is.packets); each = is.each }, is.counted)
 
--- where no packet is read, that is the first fault
+-- if no packet is read, that is the first fault
 pub begins_fault : (datagram : List ℕ) (place number : ℕ) (kind : RtcpFaultKind) → Begins datagram place number → place < length datagram → first_fault (drop place datagram) ≡ Some kind → HasFault datagram (record { kind = kind; at = place })
 begins_fault datagram place number kind is within some = record {
   before = is.packets;

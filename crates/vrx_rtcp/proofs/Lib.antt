@@ -1,5 +1,6 @@
 mod BodyLemmas
-pub mod CompoundLemmas
+mod CompoundLemmas
 mod HeaderLemmas
 mod NumberLemmas
-pub mod PacketLemmas
+mod PacketLemmas
+mod TestLemmas

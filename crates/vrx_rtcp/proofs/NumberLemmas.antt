@@ -36,7 +36,7 @@ wide64 = record {
   below = λ octets fit. omega (arith, fit 0, fit 1, fit 2, fit 3, fit 4, fit 5, fit 6, fit 7);
 }
 
--- the octets from a place on are those of the number there, and the octets behind it
+-- the octets from a place on are those of the number there, and the octets after it
 pub drop-number : (w : Width) (limit : ℕ) (wide : IsWide w limit) (i : ℕ) (octets : List ℕ) → Octets octets → i + byte_len w ≤ length octets → drop i octets ≡ to_be_bytes w (from_be_bytes w (take (byte_len w) (drop i octets))) ++ drop (i + byte_len w) octets
 drop-number w limit wide i octets fit room =
     let from_i = drop i octets in

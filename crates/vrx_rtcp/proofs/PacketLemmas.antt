@@ -1,4 +1,4 @@
--- The laws of the grammar of packets, for proofs of crates above.
+-- The laws of the grammar of packets.
 use Rattle.std.proofs.Common.{◌≡◌, ℕ, suc, ◌+◌, ◌-◌, ◌*◌, ◌%◌, ◌^◌, ◌<◌, ◌≤◌, Bool, true, false, cond, eqb, ltb, not, ◌&&◌, Option, None, Some, List, [], ◌∷◌, ◌++◌, length, get_or, take, drop, refl, sym, ap, subst, ◌∙◌, append_assoc, arith, inl, inr}
 use Rattle.std.specs.Int.{w16, from_be_bytes, to_be_bytes}
 use Rattle.std.proofs.lemmas.Bool.{cases_eq, ne_eqb, eq-eqb, ltb-false, le-ltb}
@@ -13,13 +13,13 @@ use Rattle.vrx_rtcp.proofs.NumberLemmas.{Octets, Octets-take, Octets-drop}
 use Rattle.vrx_rtcp.proofs.BodyLemmas.{message_of-means, message_of-read}
 use Rattle.vrx_rtcp.proofs.HeaderLemmas.{first_octet-of, version-first_octet, is_padded-first_octet, count-first_octet, good-padding, padding-is}
 
--- ---- where no fault is
+-- ---- if there is no fault
 
 passed : (test : Bool) (kind : RtcpFaultKind) (behind : Option RtcpFaultKind) → cond test (Some kind) behind ≡ None → (test ≡ false) × (behind ≡ None)
 passed true kind behind none = absurd cc
 passed false kind behind none = (refl, none)
 
--- what holds where there is no fault
+-- what holds if there is no fault
 pub record NoFault (octets : List ℕ) : Type 0 where
   pub header : 4 ≤ length octets
   pub two : version octets ≡ 2
@@ -64,7 +64,7 @@ ends_are true padding words body len good last =
     let from_here : 4 * words - padding ≡ 4 * (words + 1) - padding - 4 = omega arith in
     (subst (λ (k : ℕ). IsPadding true (drop k body)) from_here (padding-is body padding (4 * words) len is.some (omega arith) is.whole (last (omega arith))), is.within)
 
--- the octets behind the header are the content and the padding
+-- the octets after the header are the content and the padding
 parts_are : (first kind high low : ℕ) (behind : List ℕ) (words length_of_content : ℕ) → length_of_content ≤ 4 * words → take (4 * (words + 1)) (first ∷ kind ∷ high ∷ low ∷ behind) ≡ first ∷ kind ∷ high ∷ low ∷ (take length_of_content behind ++ drop length_of_content (take (4 * words) behind))
 parts_are first kind high low behind words n within =
     let body = take (4 * words) behind in
@@ -82,7 +82,7 @@ two_octets high low i high_fits low_fits =
       ]
     ]
 
--- where there is no fault, the octets of the packet's length are a packet, and what is read is what it says
+-- if there is no fault, the octets of the packet's length are a packet, and what is read is what it says
 pub message-is : (octets : List ℕ) → Octets octets → first_fault octets ≡ None → IsPacket (take (size octets) octets) (message octets)
 unfolding size
 message-is [] fit none = absurd (let h = (no_fault [] none).header in omega (arith, h))
@@ -224,7 +224,7 @@ reads-packet packet rest says is =
     let reads = reads_followed is.padded is.count is.kind is.words is.content is.padding rest says is.count_fits is.words_fit len is.ends is.means in
     subst (λ (n : ℕ). Reads (packet ++ rest) n says) (sym is.measured) (subst (λ (x : List ℕ). Reads (x ++ rest) (4 * (is.words + 1)) says) (sym is.spelled) reads)
 
--- where there is no fault, octets begin with a packet, and with a packet there is none
+-- if there is no fault, octets begin with a packet, and with a packet there is none
 pub begins_with_packet : (octets : List ℕ) → Octets octets → first_fault octets ≡ None → BeginsWithPacket octets
 begins_with_packet octets fit none = record {
   packet = take (size octets) octets;

@@ -2,6 +2,7 @@
 use Rattle.std.specs.Prelude.{ℕ, ◌+◌, ◌*◌, ◌%◌, ◌==◌, nat_lt, Bool, not, ◌&&◌, ◌||◌, if◌then◌else◌, List, length, Option, None, Some}
 use Rattle.vrx_rtcp.specs.declared.fault.RtcpFaultKind.{RtcpFaultKind}
 use Rattle.vrx_rtcp.specs.declared.fault.RtcpFaultKind.TheVariants.{Short, Version, PastEnd, Padding, Body}
+use Rattle.vrx_rtcp.specs.declared.types.TheConstants.{SR, RR, BYE, RTPFB, PSFB}
 use Rattle.vrx_rtcp.specs.Field.{version, is_padded, count, kind, size, last, unpadded}
 
 -- fewer octets remain than a header has (RFC 3550 6.4.1)
@@ -27,10 +28,10 @@ is_badly_padded octets = is_padded octets && is_bad_padding (last octets) (size 
 -- 6.4.1), a receiver report (6.4.2), a goodbye (6.6) and a feedback message (RFC 4585 6.1), and of all others
 abbrev pub least : ℕ → ℕ → ℕ
 least kind count =
-    if kind == 200 then 28 + 24 * count
-    else if kind == 201 then 8 + 24 * count
-    else if kind == 203 then 4 + 4 * count
-    else if (kind == 205) || (kind == 206) then 12
+    if kind == SR then 28 + 24 * count
+    else if kind == RR then 8 + 24 * count
+    else if kind == BYE then 4 + 4 * count
+    else if (kind == RTPFB) || (kind == PSFB) then 12
     else 4
 
 -- the body is shorter than that

@@ -1,6 +1,7 @@
 -- The fields of the packet at the front of some octets, by their places (RFC 3550 6.4.1).
 use Rattle.std.specs.Prelude.{ℕ, ◌+◌, ◌-◌, ◌*◌, ◌/◌, ◌%◌, ◌==◌, Bool, if◌then◌else◌, ◌&&◌, List, [], ◌∷◌, take, drop, slice_index}
 use Rattle.std.specs.Int.{w16, w32, w64, from_be_bytes}
+use Rattle.vrx_rtcp.specs.declared.types.TheConstants.{SR, RR, BYE, RTPFB, PSFB, FMT_NACK, FMT_PLI}
 use Rattle.vrx_rtcp.specs.Packet.{Message, Sender, Report, Bye, Nack, Pli, Other}
 
 -- the numbers of 32 and of 64 bits at a place
@@ -49,7 +50,7 @@ content octets = take (unpadded octets - 4) (drop 4 octets)
 -- what a packet with this count or format, this kind and this content says
 unfoldable pub message_of : ℕ → ℕ → List ℕ → Message
 message_of count kind content =
-    if kind == 200 then Sender (record {
+    if kind == SR then Sender (record {
       ssrc = u32_at content 0;
       ntp = u64_at content 4;
       rtp_time = u32_at content 12;
@@ -57,10 +58,10 @@ message_of count kind content =
       octets = u32_at content 20;
       blocks = take (24 * count) (drop 24 content);
     })
-    else if kind == 201 then Report (u32_at content 0) (take (24 * count) (drop 4 content))
-    else if kind == 203 then Bye (take (4 * count) content)
-    else if (kind == 205) && (count == 1) then Nack (u32_at content 0) (u32_at content 4) (drop 8 content)
-    else if (kind == 206) && (count == 1) then Pli (u32_at content 0) (u32_at content 4)
+    else if kind == RR then Report (u32_at content 0) (take (24 * count) (drop 4 content))
+    else if kind == BYE then Bye (take (4 * count) content)
+    else if (kind == RTPFB) && (count == FMT_NACK) then Nack (u32_at content 0) (u32_at content 4) (drop 8 content)
+    else if (kind == PSFB) && (count == FMT_PLI) then Pli (u32_at content 0) (u32_at content 4)
     else Other kind
 
 -- what the packet at the front says

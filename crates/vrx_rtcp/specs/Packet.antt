@@ -8,13 +8,14 @@
 -- |                            content                            |
 -- :                                                               :
 -- +-+-+-+-+-+-+-+-+-+-+-+-+-+-+-+-+-+-+-+-+-+-+-+-+-+-+-+-+-+-+-+-+
--- :                padding, where P = 1           | its length    |
+-- :                padding, if P = 1              | its length    |
 -- +-+-+-+-+-+-+-+-+-+-+-+-+-+-+-+-+-+-+-+-+-+-+-+-+-+-+-+-+-+-+-+-+
 --
 -- count: of report blocks or sources, or the format of a feedback message (FMT); kind: the packet type;
 -- words: the packet's length in words of four octets, less one. Numbers have their highest octet first.
-use Rattle.std.specs.Prelude.{◌≡◌, ◌≢◌, ℕ, ◌+◌, ◌*◌, ◌%◌, ◌^◌, ◌<◌, ◌≤◌, ◌⊎◌, Bool, true, false, if◌then◌else◌, List, [], ◌∷◌, ◌++◌, length}
+use Rattle.std.specs.Prelude.{◌≡◌, ◌≢◌, ℕ, ◌+◌, ◌*◌, ◌%◌, ◌^◌, ◌<◌, ◌≤◌, Bool, true, false, if◌then◌else◌, List, [], ◌∷◌, ◌++◌, length}
 use Rattle.std.specs.Int.{w16, w32, w64, to_be_bytes}
+use Rattle.vrx_rtcp.specs.declared.types.TheConstants.{SR, RR, BYE, RTPFB, PSFB, FMT_NACK, FMT_PLI}
 
 -- what a sender report says: its sender, the moment in NTP format and in the clock of its RTP timestamps,
 -- how many packets and octets of payload it sent, and the octets of its report blocks
@@ -92,18 +93,19 @@ pub record IsFeedback (content : List ℕ) (sender media : ℕ) (control : List 
 
 -- Every other content: of a kind that isn't read, or a feedback message of another format.
 pub record IsOther (count kind : ℕ) (content : List ℕ) : Type 0 where
-  pub no_report : (kind ≢ 200) × (kind ≢ 201)
-  pub no_bye : kind ≢ 203
-  pub other_format : (kind ≡ 205) ⊎ (kind ≡ 206) → (count ≢ 1) × (8 ≤ length content)
+  pub no_report : (kind ≢ SR) × (kind ≢ RR)
+  pub no_bye : kind ≢ BYE
+  pub other_nack : kind ≡ RTPFB → (count ≢ FMT_NACK) × (8 ≤ length content)
+  pub other_pli : kind ≡ PSFB → (count ≢ FMT_PLI) × (8 ≤ length content)
 
 -- what a packet with this count or format, this kind and this content says
 abbrev pub Means : ℕ → ℕ → List ℕ → Message → Type 0
-Means count kind content (Sender s) = (kind ≡ 200) × IsSenderReport count content s
-Means count kind content (Report ssrc blocks) = (kind ≡ 201) × IsReceiverReport count content ssrc blocks
-Means count kind content (Bye sources) = (kind ≡ 203) × IsBye count content sources
-Means count kind content (Nack sender media items) = (kind ≡ 205) × (count ≡ 1) × IsFeedback content sender media items
+Means count kind content (Sender s) = (kind ≡ SR) × IsSenderReport count content s
+Means count kind content (Report ssrc blocks) = (kind ≡ RR) × IsReceiverReport count content ssrc blocks
+Means count kind content (Bye sources) = (kind ≡ BYE) × IsBye count content sources
+Means count kind content (Nack sender media items) = (kind ≡ RTPFB) × (count ≡ FMT_NACK) × IsFeedback content sender media items
 Means count kind content (Pli sender media) =
-    (kind ≡ 206) × (count ≡ 1) × (control : List ℕ) × IsFeedback content sender media control
+    (kind ≡ PSFB) × (count ≡ FMT_PLI) × (control : List ℕ) × IsFeedback content sender media control
 Means count kind content (Other other) = (kind ≡ other) × IsOther count kind content
 
 -- Without P there is no padding. With P there are octets of it in whole words, and the last is their

@@ -8,6 +8,7 @@ ghost use Rattle.vrx_rtcp.specs.View.{view, sender_fields};
 
 use crate::field::{from, u32_at, u64_at, upto};
 use crate::packet::{Body, Bye, Nack, Pli, ReceiverReport, SenderReport};
+use crate::types::{BYE, FMT_NACK, FMT_PLI, PSFB, RR, RTPFB, SR};
 
 /// The sender report with `count` blocks.
 fn sender_report(count: usize, content: &[u8]) -> SenderReport<'_>
@@ -79,18 +80,18 @@ fn pli(content: &[u8]) -> Pli
 
 /// What a packet with this count or format, this type and this content says.
 #[tactic(auto, unfolding(crate::specs::Field::message_of))]
-pub fn body_of(count: u8, kind: u8, content: &[u8]) -> Body<'_>
+pub(crate) fn body_of(count: u8, kind: u8, content: &[u8]) -> Body<'_>
     requires count { count < 32 }
     requires room { least kind count ≤ length content.now + 4 }
     ensures { view result ≡ message_of count kind content.now }
 {
     let number = usize::from(count);
     match (kind, count) {
-        (200, _) => Body::Sender(sender_report(number, content)),
-        (201, _) => Body::Report(receiver_report(number, content)),
-        (203, _) => Body::Bye(bye(number, content)),
-        (205, 1) => Body::Nack(nack(content)),
-        (206, 1) => Body::Pli(pli(content)),
+        (SR, _) => Body::Sender(sender_report(number, content)),
+        (RR, _) => Body::Report(receiver_report(number, content)),
+        (BYE, _) => Body::Bye(bye(number, content)),
+        (RTPFB, FMT_NACK) => Body::Nack(nack(content)),
+        (PSFB, FMT_PLI) => Body::Pli(pli(content)),
         _ => Body::Other { kind },
     }
 }

@@ -4,7 +4,7 @@ ghost use Rattle.std.specs.Prelude.{◌≡◌, ◌+◌, ◌≤◌, length, take,
 ghost use Rattle.vrx_rtcp.specs.Field.{u32_at as u32_there, u64_at as u64_there};
 
 /// The number of 32 bits at `i`.
-pub fn u32_at(octets: &[u8], i: usize) -> u32
+pub(crate) fn u32_at(octets: &[u8], i: usize) -> u32
     requires { i + 4 ≤ length octets.now }
     ensures { result ≡ u32_there octets.now i }
 {
@@ -12,7 +12,7 @@ pub fn u32_at(octets: &[u8], i: usize) -> u32
 }
 
 /// The number of 64 bits at `i`.
-pub fn u64_at(octets: &[u8], i: usize) -> u64
+pub(crate) fn u64_at(octets: &[u8], i: usize) -> u64
     requires { i + 8 ≤ length octets.now }
     ensures { result ≡ u64_there octets.now i }
 {
@@ -29,7 +29,7 @@ pub fn u64_at(octets: &[u8], i: usize) -> u64
 }
 
 /// The octets from `n` on.
-pub fn from(octets: &[u8], n: usize) -> &[u8]
+pub(crate) fn from(octets: &[u8], n: usize) -> &[u8]
     requires { n ≤ length octets.now }
     ensures { result.now ≡ drop n octets.now }
 {
@@ -37,7 +37,7 @@ pub fn from(octets: &[u8], n: usize) -> &[u8]
 }
 
 /// The first `n` octets.
-pub fn upto(octets: &[u8], n: usize) -> &[u8]
+pub(crate) fn upto(octets: &[u8], n: usize) -> &[u8]
     requires { n ≤ length octets.now }
     ensures { result.now ≡ take n octets.now }
 {

@@ -8,17 +8,17 @@
 //! +-+-+-+-+-+-+-+-+-+-+-+-+-+-+-+-+-+-+-+-+-+-+-+-+-+-+-+-+-+-+-+-+
 //! :                            content                            :
 //! +-+-+-+-+-+-+-+-+-+-+-+-+-+-+-+-+-+-+-+-+-+-+-+-+-+-+-+-+-+-+-+-+
-//! :              padding, where P = 1             | padding count |
+//! :              padding, if P = 1                | padding count |
 //! +-+-+-+-+-+-+-+-+-+-+-+-+-+-+-+-+-+-+-+-+-+-+-+-+-+-+-+-+-+-+-+-+
 //! ```
 //!
 //! [`read_packet`] takes one packet apart: sender and receiver reports, goodbyes, generic NACKs and picture
-//! loss indications; every other one is told by its type alone. What it gives lies where the octets lie, and
+//! loss indications; every other one is told only by its type. What it gives lies where the octets lie, and
 //! it takes no memory. [`read_compound`] counts the packets of a datagram. What the report blocks, the reason
 //! of a goodbye and source descriptions say is left to others.
 //!
 //! `specs/Packet.antt` is the grammar, and `specs/Fault.antt` says when a packet is refused.
-//! `proofs/PacketLemmas.antt` and `proofs/CompoundLemmas.antt` have the laws, for proofs of crates above.
+//! [`one_packet`] and [`one_answer`] have the laws, which `specs/Laws.antt` states.
 #![tactic(auto)]
 
 mod body;
@@ -29,6 +29,7 @@ mod field;
 mod laws;
 mod packet;
 mod reading;
+pub mod types;
 
 pub use compound::read_compound;
 pub use fault::{RtcpFault, RtcpFaultKind};

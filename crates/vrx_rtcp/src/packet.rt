@@ -5,7 +5,7 @@
 pub struct Packet<'a> {
     /// What it says.
     pub body: Body<'a>,
-    /// The offset behind its last octet.
+    /// The offset after its last octet.
     pub next: usize,
 }
 
@@ -38,9 +38,9 @@ pub struct SenderReport<'a> {
     pub ntp: u64,
     /// The same moment in the clock of the sender's RTP timestamps.
     pub rtp_time: u32,
-    /// How many RTP packets it sent so far.
+    /// How many RTP packets it has sent.
     pub packets: u32,
-    /// How many octets of payload it sent so far.
+    /// How many octets of payload it has sent.
     pub octets: u32,
     /// The report blocks, 24 octets each.
     pub blocks: &'a [u8],
@@ -69,7 +69,7 @@ pub struct Nack<'a> {
     pub sender: u32,
     /// The SSRC of the media whose packets are missing.
     pub media: u32,
-    /// The items, 4 octets each: the number of a missing packet, and the bits of the 16 behind it.
+    /// The items, 4 octets each: the number of a missing packet, and the bits of the 16 after it.
     pub items: &'a [u8],
 }
 

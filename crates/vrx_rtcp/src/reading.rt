@@ -12,6 +12,7 @@ use crate::body::body_of;
 use crate::fault::{RtcpFault, RtcpFaultKind};
 use crate::field::{from, upto};
 use crate::packet::{Body, Packet};
+use crate::types::{BYE, PSFB, RR, RTPFB, SR};
 
 /// How many octets a header has.
 const HEADER: usize = 4;
@@ -26,7 +27,7 @@ fn size(rest: &[u8]) -> usize
     HEADER * (usize::from(u16::from_be_bytes([rest[2], rest[3]])) + 1)
 }
 
-/// How many octets the packet has without its padding, or none where the padding is wrong.
+/// How many octets the packet has without its padding, or none if the padding is wrong.
 fn unpadded(rest: &[u8], size: usize) -> Option<usize>
     requires header { 4 ≤ size }
     requires size { size ≡ size_there rest.now }
@@ -50,10 +51,10 @@ fn least(kind: u8, count: u8) -> usize
 {
     let count = usize::from(count);
     match kind {
-        200 => 28 + 24 * count,
-        201 => 8 + 24 * count,
-        203 => 4 + 4 * count,
-        205 | 206 => 12,
+        SR => 28 + 24 * count,
+        RR => 8 + 24 * count,
+        BYE => 4 + 4 * count,
+        RTPFB | PSFB => 12,
         _ => HEADER,
     }
 }
@@ -107,7 +108,7 @@ fn packet_in(rest: &[u8]) -> Result<(Body<'_>, usize), RtcpFaultKind>
 ///
 /// The fault is the first of [`RtcpFaultKind`], in the order in which they stand there, told at `at`.
 pub fn read_packet(bytes: &[u8], at: usize) -> Result<Packet<'_>, RtcpFault>
-    requires { at ≤ length bytes.now }
+    requires within { at ≤ length bytes.now }
 
     // When it is refused, and with which fault; and so, when it isn't.
     ensures fault { result_err result ≡

@@ -44,7 +44,7 @@ const SENDER_SAYS: Body<'_> = Body::Sender(SenderReport {
     blocks: &BLOCKS,
 });
 
-/// The octets behind an empty receiver report, which is a packet of 8 octets.
+/// The octets after an empty receiver report, which is a packet of 8 octets.
 fn behind_a_report(rt: &HostRuntime, octets: &[u8]) -> Result<Vec<u8>, AllocError>
     ensures { IfOk result (λ v. vec_len v ≡ 8 + length octets.now) }
 {
@@ -75,7 +75,7 @@ fn reads_packets(rt: HostRuntime) -> Result<(), AllocError> {
         ),
         // a goodbye of nobody
         (&[0x80, 0xcb, 0, 0], Body::Bye(Bye { sources: &[] })),
-        // missing: 5 with 6 and 7 behind it, and 256 with 272
+        // missing: 5 with 6 and 7 after it, and 256 with 272
         (
             &[
                 0x81, 0xcd, 0, 4, 0, 0, 0, 0x0b, 0, 0, 0, 0x0a, 0, 5, 0, 3, 1, 0, 0x80, 0,
@@ -108,7 +108,7 @@ fn reads_packets(rt: HostRuntime) -> Result<(), AllocError> {
             &[0x8f, 0xce, 0, 2, 0, 0, 0, 0x0b, 0, 0, 0, 0x0a],
             Body::Other { kind: 206 },
         ),
-        // a type that no standard names, with a header alone
+        // a type that no standard names, with only a header
         (&[0x80, 0xd2, 0, 0], Body::Other { kind: 210 }),
         // an extension of a receiver report isn't a block
         (
@@ -174,7 +174,7 @@ fn refuses_with_the_first_fault(rt: HostRuntime) -> Result<(), AllocError> {
         // one octet, and one fewer than a header
         (&[0x80], RtcpFaultKind::Short),
         (&[0x40, 0xc9, 0], RtcpFaultKind::Short),
-        // the versions 1 and 3, also where the length runs past the end
+        // the versions 1 and 3, also if the length runs past the end
         (&[0x40, 0xc9, 0, 1, 0, 0, 0, 0x0b], RtcpFaultKind::Version),
         (&[0xc0, 0xc9, 0, 1, 0, 0, 0, 0x0b], RtcpFaultKind::Version),
         (&[0x60, 0xc9, 0, 9], RtcpFaultKind::Version),
@@ -184,10 +184,10 @@ fn refuses_with_the_first_fault(rt: HostRuntime) -> Result<(), AllocError> {
             &[0x80, 0xc9, 0xff, 0xff, 0, 0, 0, 0x0b],
             RtcpFaultKind::PastEnd,
         ),
-        // where the last octet that is there would be no padding, and the body too short
+        // if the last octet that is there would be no padding, and the body too short
         (&[0xa0, 0xc9, 0, 2, 0, 0, 0, 3], RtcpFaultKind::PastEnd),
         (&[0x81, 0xc9, 0, 2, 0, 0, 0, 0x0b], RtcpFaultKind::PastEnd),
-        // padding of 0, of 3, of 5, and of more than lies behind the header; a header alone
+        // padding of 0, of 3, of 5, and of more than lies after the header; only a header
         (
             &[0xa0, 0xc9, 0, 2, 0, 0, 0, 0x0b, 0, 0, 0, 0],
             RtcpFaultKind::Padding,
@@ -219,7 +219,7 @@ fn refuses_with_the_first_fault(rt: HostRuntime) -> Result<(), AllocError> {
             ],
             RtcpFaultKind::Body,
         ),
-        // a receiver report of a header alone, and one whose padding leaves a header
+        // a receiver report of only a header, and one whose padding leaves a header
         (&[0x80, 0xc9, 0, 0], RtcpFaultKind::Body),
         (&[0xa0, 0xc9, 0, 1, 0, 0, 0, 4], RtcpFaultKind::Body),
         // a receiver report of one block without it
@@ -262,7 +262,7 @@ fn reads_compounds(rt: HostRuntime) -> Result<(), AllocError> {
     datagram.extend_from_slice(&DESCRIPTION)?;
     datagram.extend_from_slice(&LOSS)?;
     assert_eq!(rt; read_compound(&datagram), Ok(3));
-    // each of them at its place: 76 octets, and 16 behind them
+    // each of them at its place: 76 octets, and 16 after them
     assert_eq!(rt;
         read_packet(&datagram, 0),
         Ok(Packet {
@@ -301,7 +301,7 @@ fn reads_compounds(rt: HostRuntime) -> Result<(), AllocError> {
         at: 92,
     };
     assert_eq!(rt; read_compound(&datagram), Err(past_end));
-    // alone, and with a fault in the first packet
+    // by itself, and with a fault in the first packet
     assert_eq!(rt; read_compound(&LOSS), Ok(1));
     let version = RtcpFault {
         kind: RtcpFaultKind::Version,

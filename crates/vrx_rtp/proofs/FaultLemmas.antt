@@ -16,23 +16,23 @@ fault_of-made : {A B : Type 0} (r : Result A RtpFault) (f : A → B) → fault_o
 fault_of-made (Ok x) f = refl
 fault_of-made (Err e) f = refl
 
--- the fault of a test, and of what comes behind it
+-- the fault of a test, and of what comes after it
 fault_of-test : {A B : Type 0} (b : Bool) (d : RtpFault) (x : A) (f : A → Result B RtpFault) (next : Option RtpFault) → (b ≡ false → fault_of (f x) ≡ next) → fault_of (cond b (Err d) (Ok x) >>= f) ≡ cond b (Some d) next
 fault_of-test true d x f next h = refl
 fault_of-test false d x f next h = h refl
 
--- the fault of an extension that runs past the end where the test says so
+-- the fault of an extension that runs past the end if the test says so
 fault_of-found : {B : Type 0} (b : Bool) (s : ℕ) (e : HeaderExtension) (after : List ℕ) (f : Option HeaderExtension × List ℕ → Result B RtpFault) (next : Option RtpFault)
     → (b ≡ false → fault_of (f (Some e, after)) ≡ next) → fault_of (found_at s (cond b None (Some (e, after))) >>= f) ≡ cond b (Some (fault ExtensionPastEnd s)) next
 fault_of-found true s e after f next h = refl
 fault_of-found false s e after f next h = h refl
 
--- the fault of a test alone
+-- the fault of one test
 fault_of-cond : {A : Type 0} (b : Bool) (d : RtpFault) (x : A) → fault_of (cond b (Err d) (Ok x)) ≡ cond b (Some d) None
 fault_of-cond true d x = refl
 fault_of-cond false d x = refl
 
--- padding is bad where nothing follows the header
+-- padding is bad if nothing follows the header
 bad-none : (n h last : ℕ) → n ≤ h → (eqb last 0 || ltb n (h + last)) ≡ true
 bad-none n h last le =
     elim (cases_eq last 0) [
@@ -121,7 +121,7 @@ module _ (octets : List ℕ) (header : Header) where
   sources_fault : Option RtpFault
   sources_fault = cond (ltb (length octets) (sources_end octets)) (Some (fault CsrcPastEnd 12)) extension_fault
 
-  -- the faults behind the twelve octets
+  -- the faults after the twelve octets
   fault_of-behind : (rest : List ℕ) → drop 12 octets ≡ rest → 12 ≤ length octets → header.sources ≡ get_or octets 0 0 % 16 → header.extended ≡ has_extension octets
       → fault_of (behind_header (length octets) (header, rest)) ≡ sources_fault
   unfolding payload_fault extension_fault sources_fault

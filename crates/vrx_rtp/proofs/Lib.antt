@@ -1,5 +1,5 @@
-pub mod FaultLemmas
-pub mod PacketLemmas
-pub mod PacketRows
-pub mod ReadLemmas
-pub mod Steps
+mod FaultLemmas
+mod PacketLemmas
+mod PacketRows
+mod ReadLemmas
+mod Steps

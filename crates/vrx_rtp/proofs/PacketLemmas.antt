@@ -1,11 +1,9 @@
--- The laws of the grammar of RTP packets, for proofs of crates above.
+-- The laws of the grammar of RTP packets.
 use Rattle.std.proofs.Common.{◌≡◌, ℕ, zero, suc, ◌+◌, ◌-◌, ◌*◌, ◌/◌, ◌%◌, ◌^◌, ◌<◌, ◌≤◌, Bool, true, false, not, ◌||◌, cond, ltb, leb, eqb, List, [], ◌∷◌, ◌++◌, length, get_or, take, drop, replicate, All, Option, Some, None, Result, Ok, Err, refl, sym, ap, ◌∙◌, subst, append_assoc, arith}
-use Rattle.std.specs.Prelude.{IfSome, IfOk, OnOk, is_some, slice_get}
+use Rattle.std.specs.Prelude.{IfSome, IfOk, OnOk, is_some}
 use Rattle.std.specs.Int.{w16, w32, to_be_bytes, from_be_bytes}
 use Rattle.std.proofs.lemmas.Bool.{eqb-true, eqb-false, eq-eqb, ne_eqb, ltb-false, le-ltb, le-leb, lt-leb, or_parts, not-true, not-false}
 use Rattle.std.specs.Global.{Vec}
-use Rattle.std.specs.Result.{result_ok}
-use Rattle.std.proofs.lemmas.Option.{none-some, same_Some, cond_some}
 use Rattle.std.proofs.lemmas.List.{take_at, drop_at, take-append-drop, append-nil, length-append, length-take-le, length-drop, get_or-drop, get_or_at, get_or-replicate, length-replicate, take_more, take_all}
 use Rattle.std.proofs.lemmas.Nat.{be_bytes_2, be_bytes_4, from_be_bytes-to_be_bytes_2, from_be_bytes-to_be_bytes_4}
 use Rattle.std.proofs.lemmas.Grind.{common_steps, same_number_lists}
@@ -15,7 +13,7 @@ use Rattle.vrx_rtp.specs.declared.reading.Header.{Header}
 use Rattle.vrx_rtp.specs.Packet.{HeaderExtension, Packet, first_octet, marker_and_type, fixed_header, extension_octets, padding_octets, spelled_with, spelled, AreWords, FitsExtension, Fits, IsPacket, AreOctets}
 use Rattle.vrx_rtp.specs.Faults.{fault}
 use Rattle.vrx_rtp.specs.Reading.{◌>>=◌, header_at, sources_at, words_at, found_at, extension_at, payload_at, reading}
-use Rattle.vrx_rtp.proofs.Steps.{bind_ok, guard_ok, passes_ok, ok_is, done, IsBytes, IsBytes-octets, IsBytes-drop, made, behind_extension, behind_sources, behind_header}
+use Rattle.vrx_rtp.proofs.Steps.{bind_ok, guard_ok, passes_ok, ok_is, IsBytes, IsBytes-octets, IsBytes-drop, made, behind_extension, behind_sources, behind_header}
 
 -- ---- what is read is spelled so
 
@@ -144,7 +142,7 @@ record EndsWith (octets payload : List ℕ) (padding : ℕ) : Type 0 where
   pub parts : octets ≡ payload ++ padding_octets filler padding
   pub below : padding < 256
 
--- where there are padding octets
+-- if there are padding octets
 padding_octets-some : (filler : List ℕ) (n : ℕ) → 0 < n → padding_octets filler n ≡ filler ++ n ∷ []
 padding_octets-some filler zero some = absurd (omega arith)
 padding_octets-some filler (suc n) some = refl
@@ -328,7 +326,7 @@ same_packet octets p q a b = ok_is p q (sym (reading-packet octets p a) ∙ read
 zeros : (octets : List ℕ) (n : ℕ) → length octets ≡ n → All (λ octet. octet ≡ 0) octets → octets ≡ replicate n 0
 zeros octets n size are = same_number_lists octets (replicate n 0) (size ∙ sym (length-replicate n 0)) (λ k within. are k 0 within ∙ sym (get_or-replicate n k 0 0 (omega arith)))
 
--- where the padding octets but the last are 0, the octets are what the packet spells
+-- if the padding octets but the last are 0, the octets are what the packet spells
 pub packet-spelled : (octets : List ℕ) (p : Packet) (is : IsPacket octets p) → All (λ octet. octet ≡ 0) is.filler → octets ≡ spelled p
 packet-spelled octets p is are = is.spelled ∙ ap (λ (t : List ℕ). spelled_with t p) (zeros is.filler (p.padding - 1) is.filled are)
 
@@ -338,7 +336,7 @@ spelled-packet p fits = record { filler = replicate (p.padding - 1) 0; filled = 
 
 -- ---- what is written
 
--- the padding octets stand at the end, behind a filler of zeros
+-- the padding octets stand at the end, after a filler of zeros
 pub padding-pushed : (old filled new : List ℕ) (n : ℕ) → 0 < n → filled ≡ old ++ replicate (n - 1) 0 → new ≡ filled ++ n ∷ [] → new ≡ old ++ padding_octets (replicate (n - 1) 0) n
 padding-pushed old filled new n some filler last =
     last ∙ ap (λ (t : List ℕ). t ++ n ∷ []) filler ∙ append_assoc old (replicate (n - 1) 0) (n ∷ []) ∙ ap (λ (t : List ℕ). old ++ t) (sym (padding_octets-some (replicate (n - 1) 0) n some))

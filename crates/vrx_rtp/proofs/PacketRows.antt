@@ -67,6 +67,6 @@ extension_past_end = refl
 no_padding : first_fault (0xa0 ∷ 0x60 ∷ 0 ∷ 1 ∷ 0 ∷ 0 ∷ 0 ∷ 0 ∷ 0 ∷ 0 ∷ 0 ∷ 0x0a ∷ []) ≡ Some (fault PaddingPastEnd 11)
 no_padding = refl
 
--- padding alone: a0600001000000000000000a00000004
+-- padding only: a0600001000000000000000a00000004
 all_padding : first_fault (0xa0 ∷ 0x60 ∷ 0 ∷ 1 ∷ 0 ∷ 0 ∷ 0 ∷ 0 ∷ 0 ∷ 0 ∷ 0 ∷ 0x0a ∷ 0 ∷ 0 ∷ 0 ∷ 4 ∷ []) ≡ None
 all_padding = refl

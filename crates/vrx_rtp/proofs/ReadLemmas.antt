@@ -42,7 +42,7 @@ no_fault : (r : Result Packet RtpFault) → fault_of r ≡ None → (p : Packet)
 no_fault (Ok p) none = (p, refl)
 no_fault (Err e) none = absurd (none-some e (sym none))
 
--- octets are a packet exactly where no fault applies
+-- octets are a packet exactly if no fault applies
 pub packet_or_fault : (octets : List ℕ) → AreOctets octets → ((p : Packet) × IsPacket octets p) ↔ (first_fault octets ≡ None)
 packet_or_fault octets are = (
   (λ found. sym (fault_of-reading octets) ∙ ap fault_of (reading-packet octets found.0 found.1)),

@@ -26,7 +26,7 @@ pub guard_ok : {A : Type 0} (b : Bool) (d : RtpFault) (x y : A) → cond b (Err 
 guard_ok true d x y e = absurd cc
 guard_ok false d x y e = (refl, cc)
 
--- a test that passes where there is no fault
+-- a test that passes if there is no fault
 pub passes_ok : {A : Type 0} (b : Bool) (d : RtpFault) (x y : A) → cond b (Ok x) (Err d) ≡ Ok y → (b ≡ true) × (x ≡ y)
 passes_ok true d x y e = (refl, cc)
 passes_ok false d x y e = absurd cc
@@ -73,14 +73,14 @@ made header csrc extension ended = record {
   padding = ended.1;
 }
 
--- what is read behind the extension, of so many octets in all
+-- what is read after the extension, of so many octets in all
 abbrev pub behind_extension : ℕ → Header → List ℕ → Option HeaderExtension × List ℕ → Result Packet RtpFault
 behind_extension total header csrc found = payload_at header.padded (total - 1) found.1 >>= λ ended. Ok (made header csrc found.0 ended)
 
--- what is read behind the sources
+-- what is read after the sources
 abbrev pub behind_sources : ℕ → Header → List ℕ × List ℕ → Result Packet RtpFault
 behind_sources total header sources = extension_at header.extended (12 + length sources.0) sources.1 >>= behind_extension total header sources.0
 
--- what is read behind the twelve octets
+-- what is read after the twelve octets
 abbrev pub behind_header : ℕ → Header × List ℕ → Result Packet RtpFault
 behind_header total front = sources_at front.0.sources front.1 >>= behind_sources total front.0

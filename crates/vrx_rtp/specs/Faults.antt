@@ -24,7 +24,7 @@ sources_end octets = 12 + 4 * (slice_index octets 0 % 16)
 abbrev pub word_count : List ℕ → ℕ
 word_count octets = slice_index octets (sources_end octets + 2) * 256 + slice_index octets (sources_end octets + 3)
 
--- where the header ends: with X = 1 behind the extension's four octets and its words
+-- where the header ends: with X = 1 after the extension's four octets and its words
 abbrev pub header_end : List ℕ → ℕ
 header_end octets =
     if has_extension octets then sources_end octets + (4 + 4 * word_count octets) else sources_end octets
@@ -41,8 +41,8 @@ has_bad_padding octets = last_octet octets == 0 || nat_lt (length octets) (heade
 abbrev pub fault : RtpFaultKind → ℕ → RtpFault
 fault what offset = record { kind = what; at = offset }
 
--- The first fault that applies: fewer octets than a header has; another version than 2; the sources run past the end; the
--- extension's four octets or its words do, and the header ends behind them; with P = 1 the padding is bad.
+-- The first fault that applies: fewer octets than a header has; another version than 2; the sources run past the end;
+-- the extension's four octets or its words do, and the header ends after them; with P = 1 the padding is bad.
 abbrev pub first_fault : List ℕ → Option RtpFault
 first_fault octets =
     if nat_lt (length octets) 12 then Some (fault Short (length octets))

@@ -1,4 +1,5 @@
 pub mod Faults
+pub mod Laws
 pub mod Packet
 pub mod Reading
 pub mod Rtcp

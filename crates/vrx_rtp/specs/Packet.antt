@@ -11,25 +11,25 @@
 -- +=+=+=+=+=+=+=+=+=+=+=+=+=+=+=+=+=+=+=+=+=+=+=+=+=+=+=+=+=+=+=+=+
 -- |                        csrc: CC words                         |
 -- +-+-+-+-+-+-+-+-+-+-+-+-+-+-+-+-+-+-+-+-+-+-+-+-+-+-+-+-+-+-+-+-+
--- |            profile            |        count of words         |   where X = 1
+-- |            profile            |        count of words         |   if X = 1
 -- +-+-+-+-+-+-+-+-+-+-+-+-+-+-+-+-+-+-+-+-+-+-+-+-+-+-+-+-+-+-+-+-+
 -- |                             words                             |
 -- +-+-+-+-+-+-+-+-+-+-+-+-+-+-+-+-+-+-+-+-+-+-+-+-+-+-+-+-+-+-+-+-+
 -- |                            payload                            |
 -- |                                               +-+-+-+-+-+-+-+-+
--- |               filler          |               |    padding    |   where P = 1
+-- |               filler          |               |    padding    |   if P = 1
 -- +-+-+-+-+-+-+-+-+-+-+-+-+-+-+-+-+-+-+-+-+-+-+-+-+-+-+-+-+-+-+-+-+
-use Rattle.std.specs.Prelude.{◌≡◌, ℕ, zero, suc, ◌+◌, ◌-◌, ◌/◌, ◌%◌, ◌^◌, ◌<◌, ◌≤◌, Bool, nat_le, ◌==◌, if◌then◌else◌, List, [], ◌∷◌, ◌++◌, length, replicate, All, Option, None, Some, is_some, IfSome}
-use Rattle.std.specs.Int.{w16, w32, to_be_bytes, from_be_bytes}
+use Rattle.std.specs.Prelude.{◌≡◌, ℕ, zero, suc, ◌+◌, ◌-◌, ◌/◌, ◌%◌, ◌^◌, ◌<◌, ◌≤◌, Bool, ◌==◌, if◌then◌else◌, List, [], ◌∷◌, ◌++◌, length, replicate, All, Option, None, Some, is_some, IfSome}
+use Rattle.std.specs.Int.{w16, w32, to_be_bytes}
 
 -- a header extension: the 16 bits that its profile defines, and its words, four octets each (RFC 3550 5.3.1)
 pub record HeaderExtension : Type 0 where
   pub profile : ℕ
   pub words : List ℕ
 
--- a packet, wherever it lies in memory: marker bit, payload type, sequence number, timestamp in ticks of the payload's
--- clock, identifier of the synchronization source, the contributing sources, four octets each, the header extension if
--- there is one, the payload, and how many padding octets follow it
+-- a packet, wherever it lies in memory: marker bit, payload type, sequence number, timestamp in ticks of the
+-- payload's clock, identifier of the synchronization source, the contributing sources, four octets each, the header
+-- extension if there is one, the payload, and how many padding octets follow it
 pub record Packet : Type 0 where
   pub marker : Bool
   pub pt : ℕ
@@ -41,7 +41,7 @@ pub record Packet : Type 0 where
   pub payload : List ℕ
   pub padding : ℕ
 
--- the first octet: the version 2 in its two high bits; bit P where there is padding; bit X where there is an extension;
+-- the first octet: the version 2 in its two high bits; bit P if there is padding; bit X if there is an extension;
 -- and in its four low bits CC, the count of contributing sources
 abbrev pub first_octet : Packet → ℕ
 first_octet p = 128 + (if p.padding == 0 then 0 else 32) + (if is_some p.extension then 16 else 0) + length p.csrc / 4
@@ -83,7 +83,8 @@ pub record FitsExtension (e : HeaderExtension) : Type 0 where
   pub profile : e.profile < 2 ^ 16
   pub words : AreWords 262140 e.words
 
--- each field fits the bits that it has in the header: CC has four bits, so there are at most 15 sources of four octets
+-- each field fits the bits that it has in the header: CC has four bits, so there are at most 15 sources of four
+-- octets
 pub record Fits (p : Packet) : Type 0 where
   pub pt : p.pt < 128
   pub seq : p.seq < 2 ^ 16

@@ -8,13 +8,13 @@ use Rattle.vrx_rtp.specs.declared.reading.Header.{Header}
 use Rattle.vrx_rtp.specs.Packet.{HeaderExtension, Packet}
 use Rattle.vrx_rtp.specs.Faults.{fault}
 
--- what comes next, where there was no fault
+-- what comes next, if there was no fault
 infixl 10 ◌>>=◌
 abbrev pub ◌>>=◌ : {A B : Type 0} → Result A RtpFault → (A → Result B RtpFault) → Result B RtpFault
 (Ok x) >>= f = f x
 (Err e) >>= f = Err e
 
--- the twelve octets that each header has, and what is behind them
+-- the twelve octets that each header has, and what is after them
 abbrev pub header_at : List ℕ → Result (Header × List ℕ) RtpFault
 header_at (first ∷ second ∷ seq1 ∷ seq0 ∷ ts3 ∷ ts2 ∷ ts1 ∷ ts0 ∷ ssrc3 ∷ ssrc2 ∷ ssrc1 ∷ ssrc0 ∷ rest) =
     let header : Header = record {
@@ -30,13 +30,13 @@ header_at (first ∷ second ∷ seq1 ∷ seq0 ∷ ts3 ∷ ts2 ∷ ts1 ∷ ts0 �
     if first / 64 == 2 then Ok (header, rest) else Err (fault Version 0)
 header_at octets = Err (fault Short (length octets))
 
--- so many contributing sources, and what is behind them
+-- so many contributing sources, and what is after them
 abbrev pub sources_at : ℕ → List ℕ → Result (List ℕ × List ℕ) RtpFault
 sources_at count octets =
     if nat_lt (length octets) (4 * count) then Err (fault CsrcPastEnd 12)
     else Ok (take (4 * count) octets, drop (4 * count) octets)
 
--- a header extension, and what is behind it, where it doesn't run past the end
+-- a header extension, and what is after it, if it doesn't run past the end
 abbrev pub words_at : List ℕ → Option (HeaderExtension × List ℕ)
 words_at (profile1 ∷ profile0 ∷ count1 ∷ count0 ∷ octets) =
     let count : ℕ = 4 * from_be_bytes w16 (count1 ∷ count0 ∷ []) in
@@ -49,7 +49,7 @@ abbrev pub found_at : ℕ → Option (HeaderExtension × List ℕ) → Result (O
 found_at offset None = Err (fault ExtensionPastEnd offset)
 found_at offset (Some x) = Ok (Some x.0, x.1)
 
--- the header extension if there is one, and what is behind it; it stands at this offset
+-- the header extension if there is one, and what is after it; it stands at this offset
 abbrev pub extension_at : Bool → ℕ → List ℕ → Result (Option HeaderExtension × List ℕ) RtpFault
 extension_at extended offset octets = if extended then found_at offset (words_at octets) else Ok (None, octets)
 

@@ -1,4 +1,4 @@
--- Which datagrams are RTCP, where RTP and RTCP share a port (RFC 5761 4).
+-- Which datagrams are RTCP, if RTP and RTCP share a port (RFC 5761 4).
 use Rattle.std.specs.Prelude.{ℕ, ◌≤◌, Bool, ◌&&◌, nat_le, List, length, slice_index}
 
 -- the second octet, which has RTCP's packet type in its eight bits, is one of 192 to 223: so read as RTP, the marker

@@ -25,7 +25,7 @@
 //! [`read`] takes a datagram apart and takes no memory; [`write`] undoes it. Both cite one grammar,
 //! `specs/Packet.antt IsPacket`. The padding octets other than the last are lost, and written as 0.
 //!
-//! `proofs/PacketLemmas.antt` has the laws of the grammar, for proofs of crates above.
+//! [`one_reading`] has the laws of the grammar.
 #![tactic(auto)]
 
 mod fault;

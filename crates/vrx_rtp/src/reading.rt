@@ -30,7 +30,7 @@ pub(crate) struct Header {
     ssrc: u32,
 }
 
-/// The twelve octets that each header has, and what is behind them.
+/// The twelve octets that each header has, and what is after them.
 fn header_of(datagram: &[u8]) -> Result<(Header, &[u8]), RtpFault>
     ensures { seen (λ x. (x.0, x.1.now)) result ≡ header_at datagram.now }
 {
@@ -62,7 +62,7 @@ fn header_of(datagram: &[u8]) -> Result<(Header, &[u8]), RtpFault>
     Ok((header, rest))
 }
 
-/// So many contributing sources, and what is behind them.
+/// So many contributing sources, and what is after them.
 fn sources_of(count: u8, octets: &[u8]) -> Result<(&[u8], &[u8]), RtpFault>
     ensures { seen (λ x. (x.0.now, x.1.now)) result ≡ sources_at count octets.now }
 {
@@ -76,7 +76,7 @@ fn sources_of(count: u8, octets: &[u8]) -> Result<(&[u8], &[u8]), RtpFault>
     Ok(octets.split_at(len))
 }
 
-/// The header extension at the front, and what is behind it, where it doesn't run past the end.
+/// The header extension at the front, and what is after it, if it doesn't run past the end.
 fn words_of(octets: &[u8]) -> Option<(Extension<'_>, &[u8])>
     ensures { option_map (λ x. (view_extension x.0, x.1.now)) result ≡ words_at octets.now }
 {
@@ -92,7 +92,7 @@ fn words_of(octets: &[u8]) -> Option<(Extension<'_>, &[u8])>
     Some((Extension { profile, words }, rest))
 }
 
-/// The header extension if there is one, and what is behind it. It stands at octet `at` of the datagram.
+/// The header extension if there is one, and what is after it. It stands at octet `at` of the datagram.
 fn extension_of(
     extended: bool,
     at: usize,
@@ -157,8 +157,8 @@ fn packet_of(datagram: &[u8]) -> Result<RtpView<'_>, RtpFault>
 
 /// The RTP packet that the datagram is (RFC 3550 5.1). It takes no memory.
 ///
-/// A datagram that is none has the first fault that applies, in the order of [`RtpFaultKind`]. The values of the padding
-/// octets other than the last aren't kept.
+/// A datagram that is none has the first fault that applies, in the order of [`RtpFaultKind`]. The values of the
+/// padding octets other than the last aren't kept.
 pub fn read(datagram: &[u8]) -> Result<RtpView<'_>, RtpFault>
     // What is read, seen as a packet, wherever it lies in memory.
     ensures reads { view_result result ≡ reading datagram.now }
@@ -167,7 +167,7 @@ pub fn read(datagram: &[u8]) -> Result<RtpView<'_>, RtpFault>
     ensures packet { IfOk result (λ v. IsPacket datagram.now (view v)) }
     ensures only { (p : Packet) → IsPacket datagram.now p → IsOkAnd result (λ v. view v ≡ p) }
 
-    // It is read exactly where no fault applies, and else the first that applies is told.
+    // It is read exactly if no fault applies, and else the first that applies is told.
     ensures ok { IsOk result ↔ (first_fault datagram.now ≡ None) }
     ensures fault { (f : RtpFault) → (IsErrOf result f ↔ (first_fault datagram.now ≡ Some f)) }
 {

@@ -67,7 +67,8 @@ const SOURCES: &[u8] = &[
     0, 0, 0, 9, 0, 0, 0, 10, 0, 0, 0, 11, 0, 0, 0, 12, 0, 0, 0, 13, 0, 0, 0, 14, 0, 0, 0, 15,
 ];
 
-// 8f: version 2, 15 contributing sources. 60: marker 0, type 96. Number 1, timestamp 0, source 10. One octet of payload.
+// 8f: version 2, 15 contributing sources. 60: marker 0, type 96. Number 1, timestamp 0, source 10. One octet of
+// payload.
 const CROWDED_OCTETS: &[u8] = &[
     0x8f, 0x60, 0, 1, 0, 0, 0, 0, 0, 0, 0, 0x0a, 0, 0, 0, 1, 0, 0, 0, 2, 0, 0, 0, 3, 0, 0, 0, 4, 0,
     0, 0, 5, 0, 0, 0, 6, 0, 0, 0, 7, 0, 0, 0, 8, 0, 0, 0, 9, 0, 0, 0, 10, 0, 0, 0, 11, 0, 0, 0, 12,
@@ -159,7 +160,7 @@ fn tells_the_first_fault(rt: HostRuntime) {
             ExtensionPastEnd,
             12,
         ),
-        // behind one contributing source, with three octets of its word, which P = 1 doesn't change
+        // after one contributing source, with three octets of its word, which P = 1 doesn't change
         (
             &[
                 0xb1, 0x60, 0, 1, 0, 0, 0, 0, 0, 0, 0, 0x0a, 0, 0, 0, 1, 0xbe, 0xde, 0, 1, 0, 0, 0,

@@ -114,8 +114,8 @@ fn octets_of(alloc: Global, packet: &RtpView<'_>) -> Result<Vec<u8>, NoMemory>
     Ok(out)
 }
 
-/// The datagram that spells the packet (RFC 3550 5.1). `csrc` and the extension's words are whole words of four octets,
-/// at most 15 and 65,535 of them. The padding octets other than the last are 0.
+/// The datagram that spells the packet (RFC 3550 5.1). `csrc` and the extension's words are whole words of four
+/// octets, at most 15 and 65,535 of them. The padding octets other than the last are 0.
 pub fn write(alloc: Global, packet: &RtpView<'_>) -> Result<Vec<u8>, NoMemory>
     requires pt { packet.now.pt < 128 }
     requires csrc { AreWords 60 packet.now.csrc.now }

@@ -1,12 +1,15 @@
 -- Lemmas on the octets that a buffer holds from a place on.
-use Rattle.std.proofs.Common.{◌≡◌, ◌⊎◌, ℕ, true, false, not, ◌==◌, ◌+◌, ◌-◌, ◌≤◌, List, [], ◌++◌, length, take, drop, refl, sym, ap, ◌∙◌, inl, inr, append_assoc, arith, Option}
+use Rattle.std.proofs.Common.{◌≡◌, ◌⊎◌, ℕ, true, false, not, ◌==◌, ◌+◌, ◌-◌, ◌≤◌, List, [], ◌++◌, length, take, drop, refl, sym, ap, subst, ◌∙◌, inl, inr, append_assoc, arith, Option}
+use Rattle.std.proofs.Math.Seq.{drop-append_seam}
 use Rattle.std.proofs.lemmas.List.{drop-take, drop-drop, drop_all, length-take-le, length-drop, take-append-drop, take-take, append-nil}
 use Rattle.std.proofs.lemmas.List.Folds.{prefix_len-append}
-use Rattle.vrx_text.specs.Line.{feed_place}
+use Rattle.vrx_text.specs.Line.{feed_place, IsPart}
+use Rattle.vrx_io.specs.Reads.{ReadsSo}
 use Rattle.vrx_io.specs.Source.{IsSpent}
 use Rattle.vrx_text.specs.Ahead.{ahead}
-use Rattle.vrx_text.specs.Held.{Holding, ReadsOn, ReadsForLine}
+use Rattle.vrx_text.specs.Held.{Holding, ReadsOn}
 use Rattle.vrx_text.proofs.AheadLemmas.{ahead-ahead, ahead-none, IsSpent-ahead}
+use Rattle.vrx_text.proofs.ReadsLemmas.{reads_one}
 
 passed_by : (buffer : List ℕ) (start n m : ℕ) → drop n (take (n + m) (drop start buffer)) ≡ take m (drop (start + n) buffer)
 passed_by buffer start n m = drop-take n m (drop start buffer) ∙ ap (λ (octets : List ℕ). take m octets) (drop-drop n start buffer)
@@ -42,7 +45,7 @@ pub drop_beyond : (octets : List ℕ) (len : ℕ) → length octets ≤ len → 
 drop_beyond octets len beyond = drop_all len octets beyond ∙ sym (drop_all (len + 1) octets (omega arith))
 
 -- a read that failed left what was held
-pub reads_none : (old new : Holding) (before after : Option (List ℕ)) → new ≡ old → after ≡ before → ReadsOn old new before after
+abbrev pub reads_none : (old new : Holding) (before after : Option (List ℕ)) → new ≡ old → after ≡ before → ReadsOn old new before after
 reads_none old new before after same left = record {
   read = [];
   source = sym left ∙ ahead-none after;
@@ -52,7 +55,7 @@ reads_none old new before after same left = record {
 }
 
 -- one read after another
-pub reads_twice : (old mid new : Holding) (before between after : Option (List ℕ)) → ReadsOn old mid before between → ReadsOn mid new between after → ReadsOn old new before after
+abbrev pub reads_twice : (old mid new : Holding) (before between after : Option (List ℕ)) → ReadsOn old mid before between → ReadsOn mid new between after → ReadsOn old new before after
 reads_twice old mid new before between after first second = record {
   read = first.read ++ second.read;
   source = first.source ∙ ap (λ (left : Option (List ℕ)). ahead first.read left) second.source ∙ ahead-ahead first.read second.read after;
@@ -69,16 +72,20 @@ reads_twice old mid new before between after first second = record {
         spent_before (inr spent) = inr (IsSpent-ahead second.read after (rw second.source at spent))
     spent_by (inr spent) = inr spent
 
--- a read where no line feed was held
-pub reads_last : (old mid new : Holding) (before between after : Option (List ℕ)) → ReadsOn old mid before between → ReadsOn mid new between after → feed_place mid.kept ≡ length mid.kept → ReadsForLine old.kept before after
-reads_last old mid new before between after first second no_feed = record {
-  early = first.read;
-  last = second.read;
-  source = first.source ∙ ap (λ (left : Option (List ℕ)). ahead first.read left) second.source ∙ ahead-ahead first.read second.read after;
-  no_feed = rw first.octets at no_feed;
-}
+-- octets that stand behind others, told twice
+same_behind : (front xs ys : List ℕ) → front ++ xs ≡ front ++ ys → xs ≡ ys
+same_behind front xs ys is = sym (drop-append_seam front xs) ∙ ap (λ (octets : List ℕ). drop (length front) octets) is ∙ drop-append_seam front ys
 
--- where the source isn't at its end behind some reads, it wasn't before
-pub going_on : {A : Type 0} {B : Type 0} (was now : A) (old mid : Holding) → ((now ≡ was) × (mid ≡ old)) ⊎ (B × (old.ended ≡ false)) → mid.ended ≡ false → old.ended ≡ false
-going_on was now old mid (inl same) going = rw same.1 at going
-going_on was now old mid (inr read) going = read.1
+-- Reads for a line, and one more, made when a part of a line was held.
+module _ {S : Type 0} (is_read : S → List ℕ → S → Type 0) (left : S → Option (List ℕ)) (old mid new : Holding) (start was now : S) where
+  pub reads_more : (first : ReadsOn old mid (left start) (left was)) × ReadsSo is_read IsPart old.kept start was first.read → (second : ReadsOn mid new (left was) (left now)) → (octets : List ℕ) → is_read was octets now → new.kept ≡ mid.kept ++ octets → IsPart mid.kept
+      → (reads : ReadsOn old new (left start) (left now)) × ReadsSo is_read IsPart old.kept start now reads.read
+  reads_more first second octets one are part = (
+    reads_twice old mid new (left start) (left was) (left now) first.0 second,
+    subst (λ more. ReadsSo is_read IsPart old.kept start now (first.0.read ++ more)) (same_behind mid.kept octets second.read (sym are ∙ second.octets))
+        (reads_one is_read IsPart old.kept start was now first.0.read octets first.1 (subst IsPart first.0.octets part) one),
+  )
+
+-- a reader at its end isn't one that reads on
+pub never_both : {A : Type 0} (old mid : Holding) → old.ended ≡ true → mid ≡ old → mid.ended ≡ false → A
+never_both old mid ended same going = let no : false ≡ true = sym going ∙ ap (λ (h : Holding). h.ended) same ∙ ended in cc no

@@ -3,6 +3,7 @@ pub mod LinesLemmas
 pub mod JoinLemmas
 pub mod LineLemmas
 pub mod AheadLemmas
+pub mod ReadsLemmas
 pub mod HeldLemmas
 pub mod SaysLemmas
 pub mod ReaderLemmas

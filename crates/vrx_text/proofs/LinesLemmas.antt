@@ -1,10 +1,13 @@
 -- Lemmas on the lines of a text, by the place of its first line feed.
-use Rattle.std.proofs.Common.{◌≡◌, ℕ, suc, ◌+◌, ◌<◌, ◌≤◌, Bool, true, false, not, ◌==◌, if◌then◌else◌, cond, List, [], ◌∷◌, ◌++◌, length, take, get_or, refl, ap, ◌∙◌, inr, arith}
+use Rattle.std.proofs.Common.{◌≡◌, ◌≢◌, ℕ, suc, ◌+◌, ◌<◌, ◌≤◌, Bool, true, false, not, ◌==◌, if◌then◌else◌, cond, eqb, eq-eqb, List, [], ◌∷◌, ◌++◌, length, take, get_or, refl, ap, ◌∙◌, inr, arith}
 use Rattle.std.proofs.lemmas.Bool.{eqb-true}
-use Rattle.std.proofs.lemmas.List.{take_more}
+use Rattle.std.proofs.Math.Seq.{take-append_seam}
+use Rattle.std.proofs.lemmas.List.{take_more, take_all, length-append}
+use Rattle.std.proofs.lemmas.List.Folds.{position_or_len_push}
 use Rattle.std.proofs.lemmas.List.Sums.{passes_at_first}
 use Rattle.vrx_text.specs.Line.{feed_place, with_octet, lines_of}
 use Rattle.vrx_text.specs.Reader.{AreWhole}
+use Rattle.vrx_text.specs.Joins.{OneLine, LastLine}
 
 -- the place of the first line feed, by what the first octet is
 abbrev feed_behind : Bool → ℕ → ℕ
@@ -38,6 +41,30 @@ pub whole_line : (octets : List ℕ) → feed_place octets < length octets → A
 whole_line octets within =
     let feed : get_or octets (feed_place octets) 0 ≡ 10 = eqb-true _ 10 (passes_at_first (λ octet. octet == 10) octets 0 within) in
     inr (take (feed_place octets) octets, take_more octets (feed_place octets) 0 within ∙ ap (λ (o : ℕ). take (feed_place octets) octets ++ o ∷ []) feed)
+
+some_length : (line : List ℕ) → line ≢ [] → 0 < length line
+some_length [] some = absurd (some refl)
+some_length (o ∷ os) some = omega arith
+
+-- octets without a line feed at the end of a text
+pub last_line : LastLine
+last_line line no_feed some =
+    let all : take (feed_place line + 1) line ≡ line = take_all (feed_place line + 1) line (omega (arith, no_feed)) in
+    let same : take (feed_place line) line ≡ line = take_all (feed_place line) line (omega (arith, no_feed)) in
+    rw (all, same) at (first_line line (some_length line some))
+
+-- a line feed is the first behind octets without one
+feed_at_end : (line : List ℕ) → feed_place line ≡ length line → feed_place (line ++ 10 ∷ []) ≡ length line
+feed_at_end line no_feed = position_or_len_push (λ octet. octet == 10) line 10 ∙ ap (λ n. cond (eqb n (length line)) (length line + 0) n) no_feed ∙ ap (λ b. cond b (length line + 0) (length line)) (eq-eqb (length line) (length line) refl) ∙ omega arith
+
+-- octets without a line feed, ended by one
+pub one_line : OneLine
+one_line line no_feed =
+    let octets : List ℕ = line ++ 10 ∷ [] in
+    let place : feed_place octets ≡ length line = feed_at_end line no_feed in
+    let all : take (feed_place octets + 1) octets ≡ octets = take_all (feed_place octets + 1) octets (omega (arith, place, length-append line (10 ∷ []))) in
+    let same : take (feed_place octets) octets ≡ line = ap (λ n. take n octets) place ∙ take-append_seam line (10 ∷ []) in
+    rw (all, same) at (first_line octets (omega (arith, length-append line (10 ∷ []))))
 
 -- ---- a first line that may go on
 

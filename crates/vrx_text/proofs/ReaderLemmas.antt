@@ -2,11 +2,12 @@
 use Rattle.std.proofs.Common.{◌≡◌, ◌⊎◌, ℕ, ◌+◌, ◌<◌, ◌≤◌, ◌==◌, Bool, true, false, List, [], ◌∷◌, ◌++◌, length, take, drop, Option, Some, None, Result, Ok, Err, refl, sym, ap, ◌∙◌, inl, inr, append_assoc, arith}
 use Rattle.std.proofs.lemmas.Bool.{cases_lt}
 use Rattle.std.proofs.lemmas.List.{append-nil, take-append-drop, drop_all, length-take-le}
-use Rattle.vrx_text.specs.Line.{feed_place, lines_of, longest_line, most_lines}
+use Rattle.vrx_text.specs.Line.{feed_place, lines_of, longest_line, most_lines, IsPart}
 use Rattle.vrx_text.specs.Reading.{sound, bad_at, with_line, reading}
-use Rattle.vrx_text.specs.Held.{ReadsOn, ReadsForLine}
+use Rattle.vrx_io.specs.Reads.{ReadsSo}
+use Rattle.vrx_text.specs.Held.{ReadsOn}
 use Rattle.vrx_text.specs.Found.{IsFirstLine}
-use Rattle.vrx_text.specs.Reader.{Reader, says, AreWhole, MayFollow, Passes, IsNext, AllSayBad, ReadsLazily, HasNoFeed, HasNoHead}
+use Rattle.vrx_text.specs.Reader.{Reader, says, AreWhole, MayFollow, Passes, IsNext, AllSayBad, SayNothing, HasNoFeed, HasNoHead}
 use Rattle.vrx_text.specs.Step.{GoesOn, IsTaken, IsStep, KeepsCounts, held_by, long_reason, passed}
 use Rattle.vrx_core.specs.declared.event.Event.{Event}
 use Rattle.vrx_text.specs.declared.line.LineKind.{LineKind}
@@ -21,7 +22,7 @@ use Rattle.vrx_text.proofs.LinesLemmas.{first_line, whole_line, first_length, fe
 use Rattle.vrx_text.proofs.LineLemmas.{long_line}
 use Rattle.vrx_text.proofs.AheadLemmas.{ahead-none}
 use Rattle.vrx_text.proofs.JoinLemmas.{lines_join}
-use Rattle.vrx_text.proofs.SaysLemmas.{kind_of, says-first, says-none, next-on, passes-on, reads-lazily}
+use Rattle.vrx_text.proofs.SaysLemmas.{kind_of, says-first, says-none, next-on, passes-on, goes-on, reads-on}
 
 -- ---- a reader that did nothing
 
@@ -42,16 +43,16 @@ passes_none reader left = record {
   max = refl;
 }
 
-pub goes_none : (reader : Reader) (left : Option (List ℕ)) → reader.bad ≡ None → GoesOn reader reader left left
+abbrev pub goes_none : (reader : Reader) (left : Option (List ℕ)) → reader.bad ≡ None → GoesOn reader reader left left
 goes_none reader left good = record { passes = passes_none reader left; nothing = says-none reader good; events = refl; bad = good }
 
 -- it met a bad line before
-pub next_bad : (reader : Reader) (left : Option (List ℕ)) (k : ℕ) (reason : LineReason) → reader.bad ≡ Some (k, reason) → (passes : Passes reader reader left left) × IsNext reader reader passes.read passes.gone (Err (faults.Bad k reason))
-next_bad reader left k reason bad = (passes_none reader left, (λ more may. rw bad refl, refl, bad))
+pub next_bad : (reader : Reader) (left : Option (List ℕ)) (k : ℕ) (reason : LineReason) → reader.bad ≡ Some (k, reason) → (so : List ℕ → Type 0) → so [] → (passes : Passes reader reader left left) × IsNext reader reader passes.read passes.gone (Err (faults.Bad k reason)) × so passes.read
+next_bad reader left k reason bad so none = (passes_none reader left, (λ more may. rw bad refl, refl, bad), none)
 
 -- so many lines were given that the next has no number
-pub head_full : (reader : Reader) (left : Option (List ℕ)) → most_lines ≤ reader.given → (passes : Passes reader reader left left) × ((passes.gone ≡ []) × (reader.given < most_lines → (more : List ℕ) → MayFollow reader more → HasNoHead (lines_of (reader.kept ++ passes.read ++ more))))
-head_full reader left full = (passes_none reader left, (refl, λ fewer. absurd (omega arith)))
+pub head_full : (reader : Reader) (left : Option (List ℕ)) → most_lines ≤ reader.given → (so : List ℕ → Type 0) → so [] → (passes : Passes reader reader left left) × ((passes.gone ≡ []) × (reader.given < most_lines → (more : List ℕ) → MayFollow reader more → HasNoHead (lines_of (reader.kept ++ passes.read ++ more)))) × so passes.read
+head_full reader left full so none = (passes_none reader left, (refl, λ fewer. absurd (omega arith)), none)
 
 -- ---- the front of what is kept
 
@@ -109,7 +110,7 @@ unfolding lines_of
 no_head kept more none nothing = rw (none, nothing) tt
 
 -- Behind a find, which left a reader `mid`.
-module _ (old mid : Reader) (before after : Option (List ℕ)) (reads : ReadsOn (held_by old) (held_by mid) before after) (counts : KeepsCounts old mid) where
+module _ (old mid : Reader) (before after : Option (List ℕ)) (reads : ReadsOn (held_by old) (held_by mid) before after) (counts : KeepsCounts old mid) (so : List ℕ → Type 0) (read_so : so reads.read) where
   pub given_same : mid.given ≡ old.given
   given_same = ap (λ (r : Reader). r.given) counts
 
@@ -155,20 +156,20 @@ module _ (old mid : Reader) (before after : Option (List ℕ)) (reads : ReadsOn 
 
   -- ---- head lines
 
-  pub head_failed : HasNoFeed mid.kept → mid.ended ≡ false → length mid.kept ≤ longest_line → (passes : Passes old mid before after) × ((passes.gone ≡ []) × HasNoFeed mid.kept × (mid.ended ≡ false) × (length mid.kept ≤ longest_line))
-  head_failed no_feed going short = (made_none mid refl refl refl refl, (refl, no_feed, going, short))
+  pub head_failed : HasNoFeed mid.kept → mid.ended ≡ false → length mid.kept ≤ longest_line → (passes : Passes old mid before after) × ((passes.gone ≡ []) × HasNoFeed mid.kept × (mid.ended ≡ false) × (length mid.kept ≤ longest_line)) × so passes.read
+  head_failed no_feed going short = (made_none mid refl refl refl refl, (refl, no_feed, going, short), read_so)
 
-  pub head_no_memory : (new : Reader) → new ≡ mid → (passes : Passes old new before after) × (passes.gone ≡ [])
-  head_no_memory new same = rw same (made_none mid refl refl refl refl, refl)
+  pub head_no_memory : (new : Reader) → new ≡ mid → (passes : Passes old new before after) × (passes.gone ≡ []) × so passes.read
+  head_no_memory new same = rw same (made_none mid refl refl refl refl, refl, read_so)
 
-  pub head_end : mid.kept ≡ [] → mid.ended ≡ true → (passes : Passes old mid before after) × ((passes.gone ≡ []) × (old.given < most_lines → (more : List ℕ) → MayFollow mid more → HasNoHead (lines_of (old.kept ++ passes.read ++ more))))
-  head_end none ended = (made_none mid refl refl refl refl, (refl, λ fewer more may. rw (kept_read more) (no_head mid.kept more none (may ended))))
+  pub head_end : mid.kept ≡ [] → mid.ended ≡ true → (passes : Passes old mid before after) × ((passes.gone ≡ []) × (old.given < most_lines → (more : List ℕ) → MayFollow mid more → HasNoHead (lines_of (old.kept ++ passes.read ++ more)))) × so passes.read
+  head_end none ended = (made_none mid refl refl refl refl, (refl, λ fewer more may. rw (kept_read more) (no_head mid.kept more none (may ended))), read_so)
 
-  pub head_too_long : longest_line < feed_place mid.kept → (passes : Passes old mid before after) × ((passes.gone ≡ []) × (old.given < most_lines → (more : List ℕ) → MayFollow mid more → HasNoHead (lines_of (old.kept ++ passes.read ++ more))))
-  head_too_long long = (made_none mid refl refl refl refl, (refl, λ fewer more may. rw (kept_read more) (HasNoHead-first_length (lines_of (mid.kept ++ more)) (omega (arith, feed_le_first mid.kept more)))))
+  pub head_too_long : longest_line < feed_place mid.kept → (passes : Passes old mid before after) × ((passes.gone ≡ []) × (old.given < most_lines → (more : List ℕ) → MayFollow mid more → HasNoHead (lines_of (old.kept ++ passes.read ++ more)))) × so passes.read
+  head_too_long long = (made_none mid refl refl refl refl, (refl, λ fewer more may. rw (kept_read more) (HasNoHead-first_length (lines_of (mid.kept ++ more)) (omega (arith, feed_le_first mid.kept more)))), read_so)
 
-  pub head_given : (new : Reader) (len : ℕ) (line : List ℕ) → IsFirstLine mid.kept mid.ended len → new ≡ passed mid len 0 → line ≡ take len mid.kept → (passes : Passes old new before after) × ((lines_of passes.gone ≡ line ∷ []) × (length line ≤ longest_line))
-  head_given new len line first is told = rw (is, told) (made_line (passed mid len 0) len first refl refl refl refl, (gone_line mid.kept mid.ended len first, omega (arith, first.short, length-take-le len mid.kept (len_within mid.kept mid.ended len first))))
+  pub head_given : (new : Reader) (len : ℕ) (line : List ℕ) → IsFirstLine mid.kept mid.ended len → new ≡ passed mid len 0 → line ≡ take len mid.kept → (passes : Passes old new before after) × ((lines_of passes.gone ≡ line ∷ []) × (length line ≤ longest_line)) × so passes.read
+  head_given new len line first is told = rw (is, told) (made_line (passed mid len 0) len first refl refl refl refl, (gone_line mid.kept mid.ended len first, omega (arith, first.short, length-take-le len mid.kept (len_within mid.kept mid.ended len first))), read_so)
 
   -- ---- events
 
@@ -176,14 +177,14 @@ module _ (old mid : Reader) (before after : Option (List ℕ)) (reads : ReadsOn 
     mid_good : mid.bad ≡ None
     mid_good = bad_same ∙ good
 
-    pub found_failed : HasNoFeed mid.kept → mid.ended ≡ false → length mid.kept ≤ longest_line → (passes : Passes old mid before after) × IsNext old mid passes.read passes.gone (Err faults.ReadFault)
-    found_failed no_feed going short = (made_none mid refl refl refl refl, (says-none old good, no_feed, going, events_same, mid_good, short))
+    pub found_failed : HasNoFeed mid.kept → mid.ended ≡ false → length mid.kept ≤ longest_line → (passes : Passes old mid before after) × IsNext old mid passes.read passes.gone (Err faults.ReadFault) × so passes.read
+    found_failed no_feed going short = (made_none mid refl refl refl refl, (says-none old good, no_feed, going, events_same, mid_good, short), read_so)
 
-    pub found_end : mid.kept ≡ [] → mid.ended ≡ true → (passes : Passes old mid before after) × IsNext old mid passes.read passes.gone (Ok lines.End)
-    found_end none ended = (made_none mid refl refl refl refl, (says-none old good, none, ended, events_same, mid_good))
+    pub found_end : mid.kept ≡ [] → mid.ended ≡ true → (passes : Passes old mid before after) × IsNext old mid passes.read passes.gone (Ok lines.End) × so passes.read
+    found_end none ended = (made_none mid refl refl refl refl, (says-none old good, none, ended, events_same, mid_good), read_so)
 
-    pub found_too_long : (new : Reader) (fault : LineFault) → new ≡ record mid { bad = Some (mid.given + 1, long_reason (mid.given + 1)) } → fault ≡ faults.Bad (mid.given + 1) (long_reason (mid.given + 1)) → longest_line < feed_place mid.kept → (passes : Passes old new before after) × IsNext old new passes.read passes.gone (Err fault)
-    found_too_long new fault is told long = rw (told, is) (made_none (record mid { bad = Some (mid.given + 1, long_reason (mid.given + 1)) }) refl refl refl refl, (all, events_same, refl))
+    pub found_too_long : (new : Reader) (fault : LineFault) → new ≡ record mid { bad = Some (mid.given + 1, long_reason (mid.given + 1)) } → fault ≡ faults.Bad (mid.given + 1) (long_reason (mid.given + 1)) → longest_line < feed_place mid.kept → (passes : Passes old new before after) × IsNext old new passes.read passes.gone (Err fault) × so passes.read
+    found_too_long new fault is told long = rw (told, is) (made_none (record mid { bad = Some (mid.given + 1, long_reason (mid.given + 1)) }) refl refl refl refl, (all, events_same, refl), read_so)
       where
         all : AllSayBad old (record mid { bad = Some (mid.given + 1, long_reason (mid.given + 1)) }) (old.kept ++ reads.read) (mid.given + 1, long_reason (mid.given + 1))
         all more may = rw (kept_read more) (says_same (mid.kept ++ more) ∙ long_says mid (mid.kept ++ more) (lines_of (mid.kept ++ more)) mid_good refl (omega (arith, feed_le_first mid.kept more)))
@@ -198,40 +199,48 @@ module _ (old mid : Reader) (before after : Option (List ℕ)) (reads : ReadsOn 
         let line = first_of mid.kept mid.ended len first more (λ was. may (ended ∙ was)) in
         rw (kept_read more) (says_same (mid.kept ++ more) ∙ says-first mid (mid.kept ++ more) (take len mid.kept) line.0 mid_good line.1 ∙ rw is refl)
 
-    event_given : (len : ℕ) (event : Event) → IsFirstLine mid.kept mid.ended len → kind_of mid (take len mid.kept) ≡ Happens event → mid.events + 1 ≤ mid.max → (passes : Passes old (passed mid len 1) before after) × IsNext old (passed mid len 1) passes.read passes.gone (Ok (lines.Event (mid.given + 1) event))
-    event_given len event first is fewer = (made_line (passed mid len 1) len first refl refl refl refl, (says_gone len (Happens event) first is, ap (λ (n : ℕ). n + 1) events_same, fewer, mid_good))
+    event_given : (len : ℕ) (event : Event) → IsFirstLine mid.kept mid.ended len → kind_of mid (take len mid.kept) ≡ Happens event → mid.events + 1 ≤ mid.max → (passes : Passes old (passed mid len 1) before after) × IsNext old (passed mid len 1) passes.read passes.gone (Ok (lines.Event (mid.given + 1) event)) × so passes.read
+    event_given len event first is fewer = (made_line (passed mid len 1) len first refl refl refl refl, (says_gone len (Happens event) first is, ap (λ (n : ℕ). n + 1) events_same, fewer, mid_good), read_so)
 
-    bad_given : (len : ℕ) (reason : LineReason) → IsFirstLine mid.kept mid.ended len → kind_of mid (take len mid.kept) ≡ Wrong reason → (passes : Passes old (record mid { bad = Some (mid.given + 1, reason) }) before after) × IsNext old (record mid { bad = Some (mid.given + 1, reason) }) passes.read passes.gone (Err (faults.Bad (mid.given + 1) reason))
-    bad_given len reason first is = (made_none (record mid { bad = Some (mid.given + 1, reason) }) refl refl refl refl, (wrong_all (record mid { bad = Some (mid.given + 1, reason) }) len reason first is refl, events_same, refl))
+    bad_given : (len : ℕ) (reason : LineReason) → IsFirstLine mid.kept mid.ended len → kind_of mid (take len mid.kept) ≡ Wrong reason → (passes : Passes old (record mid { bad = Some (mid.given + 1, reason) }) before after) × IsNext old (record mid { bad = Some (mid.given + 1, reason) }) passes.read passes.gone (Err (faults.Bad (mid.given + 1) reason)) × so passes.read
+    bad_given len reason first is = (made_none (record mid { bad = Some (mid.given + 1, reason) }) refl refl refl refl, (wrong_all (record mid { bad = Some (mid.given + 1, reason) }) len reason first is refl, events_same, refl), read_so)
 
-    pub found_taken : (new : Reader) (len : ℕ) (result : Result (Option Line) LineFault) → IsFirstLine mid.kept mid.ended len → IsTaken mid (kind_of mid (take len mid.kept)) len new result → IsStep old new before after result
-    found_taken new len (Ok None) first taken = rw taken.1 (record {
-      passes = made_line (passed mid len 0) len first refl refl refl refl;
-      nothing = says_gone len Blank first taken.0;
-      events = omega (arith, events_same);
-      bad = mid_good;
-    })
+    pub found_taken : (new : Reader) (len : ℕ) (result : Result (Option Line) LineFault) → IsFirstLine mid.kept mid.ended len → IsTaken mid (kind_of mid (take len mid.kept)) len new result → IsStep so old new before after result
+    found_taken new len (Ok None) first taken = rw taken.1 (
+      record {
+        passes = made_line (passed mid len 0) len first refl refl refl refl;
+        nothing = says_gone len Blank first taken.0;
+        events = omega (arith, events_same);
+        bad = mid_good;
+      },
+      read_so,
+    )
     found_taken new len (Ok (Some (lines.Event k event))) first taken = rw (taken.1, taken.2) (event_given len event first taken.0 (rw taken.2 at taken.3))
     found_taken new len (Ok (Some lines.End)) first taken = absurd taken
     found_taken new len (Err (faults.Bad k reason)) first taken = rw (taken.1, rw taken.1 at taken.2) (bad_given len reason first taken.0)
     found_taken new len (Err faults.ReadFault) first taken = absurd taken
-    found_taken new len (Err faults.NoMemory) first taken = rw taken (made_none mid refl refl refl refl, (says-none old good, events_same, mid_good))
+    found_taken new len (Err faults.NoMemory) first taken = rw taken (made_none mid refl refl refl refl, (says-none old good, events_same, mid_good), read_so)
 
 -- ---- several steps
 
 -- Behind steps over lines that say nothing.
 module _ (old mid : Reader) (before between : Option (List ℕ)) (first : GoesOn old mid before between) (good : old.bad ≡ None) where
-  pub next_after : (new : Reader) (after : Option (List ℕ)) (result : Result Line LineFault) → (passes : Passes mid new between after) × IsNext mid new passes.read passes.gone result → (passes : Passes old new before after) × IsNext old new passes.read passes.gone result
-  next_after new after result second = (passes-on old mid before between first good new after second.0, next-on old mid before between first good new after second.0 result second.1)
+  pub next_after : {S : Type 0} (is_read : S → List ℕ → S → Type 0) (start was now : S) → ReadsSo is_read (SayNothing old) old.kept start was first.passes.read → (mid.ended ≡ true → now ≡ was) → (new : Reader) (after : Option (List ℕ)) (result : Result Line LineFault)
+      → (passes : Passes mid new between after) × IsNext mid new passes.read passes.gone result × ReadsSo is_read IsPart mid.kept was now passes.read → (passes : Passes old new before after) × IsNext old new passes.read passes.gone result × ReadsSo is_read (SayNothing old) old.kept start now passes.read
+  next_after is_read start was now reads idle new after result second = (
+    passes-on old mid before between first good new after second.0,
+    next-on old mid before between first good new after second.0 result second.1,
+    reads-on old mid before between first good is_read start was now reads new after second.0 idle second.2,
+  )
 
-  -- before the last read all that was kept and read said nothing
-  pub lazy_source : {A : Type 0} (left : A → Option (List ℕ)) (start was now : A) → (was ≡ start) ⊎ ReadsLazily old before (left was) → (now ≡ was) ⊎ (ReadsForLine mid.kept between (left now) × (mid.ended ≡ false)) → (now ≡ start) ⊎ ReadsLazily old before (left now)
-  lazy_source left start was now (inl same) (inl still) = inl (still ∙ same)
-  lazy_source left start was now (inr lazy) (inl still) = inr (rw still lazy)
-  lazy_source left start was now (inl same) (inr reads) = inr (reads-lazily old mid before between first good (left now) reads.1 reads.0)
-  lazy_source left start was now (inr lazy) (inr reads) = inr (reads-lazily old mid before between first good (left now) reads.1 reads.0)
+  -- a step over a line that says nothing
+  pub goes_after : {S : Type 0} (is_read : S → List ℕ → S → Type 0) (start was now : S) → ReadsSo is_read (SayNothing old) old.kept start was first.passes.read → (mid.ended ≡ true → now ≡ was) → (new : Reader) (after : Option (List ℕ))
+      → (goes : GoesOn mid new between after) × ReadsSo is_read IsPart mid.kept was now goes.passes.read → (goes : GoesOn old new before after) × ReadsSo is_read (SayNothing old) old.kept start now goes.passes.read
+  goes_after is_read start was now reads idle new after second = (
+    goes-on old mid new before between after first good second.0,
+    reads-on old mid before between first good is_read start was now reads new after second.0.passes idle second.1,
+  )
 
-  -- and never behind its end
-  pub idle_source : {A : Type 0} {B : Type 0} (start was now : A) → (old.ended ≡ true → was ≡ start) → (now ≡ was) ⊎ (B × (mid.ended ≡ false)) → old.ended ≡ true → now ≡ start
-  idle_source start was now idle (inl still) ended = still ∙ idle ended
-  idle_source start was now idle (inr reads) ended = let no : false ≡ true = sym reads.1 ∙ (first.passes.stays ended).0 in cc no
+  -- and no read behind its end
+  pub idle_source : {A : Type 0} (start was now : A) → (old.ended ≡ true → was ≡ start) → (mid.ended ≡ true → now ≡ was) → old.ended ≡ true → now ≡ start
+  idle_source start was now idle still ended = still (first.passes.stays ended).0 ∙ idle ended

@@ -1,12 +1,12 @@
 -- Lemmas on what lines say to a reader, and on readers that pass over lines that say nothing.
-use Rattle.std.proofs.Common.{◌≡◌, ◌⊎◌, ℕ, ◌+◌, true, false, List, [], ◌∷◌, ◌++◌, length, Option, None, Result, Ok, Err, refl, sym, ap, ◌∙◌, inl, inr, append_assoc, arith}
+use Rattle.std.proofs.Common.{◌≡◌, ◌⊎◌, ℕ, ◌+◌, true, List, [], ◌∷◌, ◌++◌, length, Option, None, Result, Ok, Err, refl, sym, ap, subst, ◌∙◌, inl, inr, append_assoc, arith}
 use Rattle.std.proofs.lemmas.List.{append-nil, length-append}
 use Rattle.vrx_io.specs.Source.{IsSpent}
-use Rattle.vrx_text.specs.Line.{lines_of, line_at}
+use Rattle.vrx_text.specs.Line.{lines_of, line_at, IsPart}
 use Rattle.vrx_text.specs.Reading.{sound, event_count, with_line, reading}
 use Rattle.vrx_text.specs.Ahead.{ahead}
-use Rattle.vrx_text.specs.Held.{ReadsForLine}
-use Rattle.vrx_text.specs.Reader.{Reader, says, AreWhole, MayFollow, Passes, IsNext, AllSayBad, ReadsLazily}
+use Rattle.vrx_io.specs.Reads.{ReadsSo}
+use Rattle.vrx_text.specs.Reader.{Reader, says, AreWhole, MayFollow, Passes, IsNext, AllSayBad, SayNothing}
 use Rattle.vrx_text.specs.Joins.{behind_events}
 use Rattle.vrx_text.specs.Step.{GoesOn}
 use Rattle.vrx_text.specs.declared.line.LineKind.{LineKind}
@@ -17,6 +17,7 @@ use Rattle.vrx_text.specs.declared.lines.LineFault.{LineFault}
 use Rattle.vrx_text.specs.declared.lines.LineFault.TheVariants as faults
 use Rattle.vrx_text.proofs.AheadLemmas.{ahead-ahead, IsSpent-ahead}
 use Rattle.vrx_text.proofs.JoinLemmas.{lines_join, readings_join}
+use Rattle.vrx_text.proofs.ReadsLemmas.{reads_both}
 
 -- what one line says to a reader
 abbrev pub kind_of : Reader → List ℕ → LineKind
@@ -133,29 +134,21 @@ module _ (old mid : Reader) (before between : Option (List ℕ)) (first : GoesOn
     next-on (Err faults.ReadFault) is = (says-both ∙ is.0, is.1, is.2, is.3 ∙ first.events, is.4, is.5)
     next-on (Err faults.NoMemory) is = (says-both ∙ is.0, is.1 ∙ first.events, is.2)
 
-  -- it reads on for a line, of which it keeps a part
-  pub reads-lazily : (after : Option (List ℕ)) → mid.ended ≡ false → ReadsForLine mid.kept between after → ReadsLazily old before after
-  reads-lazily after going reads = record {
-    early = first.passes.read ++ reads.early;
-    last = reads.last;
-    source = first.passes.source ∙ ap (λ (left : Option (List ℕ)). ahead first.passes.read left) reads.source ∙ ahead-ahead first.passes.read (reads.early ++ reads.last) after ∙ ap (λ (octets : List ℕ). ahead octets after) (sym (append_assoc first.passes.read reads.early reads.last));
-    nothing = record {
-      lines = first.passes.gone;
-      part = mid.kept ++ reads.early;
-      kept = sym (append_assoc old.kept first.passes.read reads.early) ∙ ap (λ (octets : List ℕ). octets ++ reads.early) first.passes.octets ∙ append_assoc first.passes.gone mid.kept reads.early;
-      whole = whole_going first.passes.whole;
-      no_feed = reads.no_feed;
-      nothing = first.nothing;
-    };
-  }
-    where
-      whole_going : AreWhole first.passes.gone ⊎ ((mid.ended ≡ true) × (mid.kept ≡ [])) → AreWhole first.passes.gone
-      whole_going (inl whole) = whole
-      whole_going (inr last) = let no : false ≡ true = sym going ∙ last.0 in cc no
+  -- what was read until a part of a line was kept says nothing
+  part_says : AreWhole first.passes.gone → (octets : List ℕ) → IsPart octets → SayNothing old (first.passes.gone ++ octets)
+  part_says whole octets short = record { lines = first.passes.gone; part = octets; are = refl; whole = whole; short = short; nothing = first.nothing }
+
+  -- it reads on, if its source wasn't at its end
+  module _ {S : Type 0} (is_read : S → List ℕ → S → Type 0) (start was now : S) (reads : ReadsSo is_read (SayNothing old) old.kept start was first.passes.read) where
+    pub reads-on : (new : Reader) (after : Option (List ℕ)) (second : Passes mid new between after) → (mid.ended ≡ true → now ≡ was) → ReadsSo is_read IsPart mid.kept was now second.read → ReadsSo is_read (SayNothing old) old.kept start now (first.passes.read ++ second.read)
+    reads-on new after second idle more = by_whole first.passes.whole where
+      by_whole : AreWhole first.passes.gone ⊎ ((mid.ended ≡ true) × (mid.kept ≡ [])) → ReadsSo is_read (SayNothing old) old.kept start now (first.passes.read ++ second.read)
+      by_whole (inl whole) = reads_both is_read IsPart (SayNothing old) old.kept first.passes.gone mid.kept start was now first.passes.read second.read reads first.passes.octets (part_says whole) more
+      by_whole (inr last) = subst (λ s. ReadsSo is_read (SayNothing old) old.kept start s (first.passes.read ++ second.read)) (sym (idle last.0)) (subst (λ read. ReadsSo is_read (SayNothing old) old.kept start was read) (sym (append-nil first.passes.read) ∙ ap (λ (read : List ℕ). first.passes.read ++ read) (sym (second.stays last.0).1)) reads)
 
 -- Lines that say nothing, and more of them.
 module _ (old mid new : Reader) (before between after : Option (List ℕ)) (first : GoesOn old mid before between) (good : old.bad ≡ None) (second : GoesOn mid new between after) where
-  pub goes-on : GoesOn old new before after
+  abbrev pub goes-on : GoesOn old new before after
   goes-on = record {
     passes = passes-on old mid before between first good new after second.passes;
     nothing = says-both old mid before between first good new after second.passes ∙ second.nothing;

@@ -9,7 +9,7 @@ use Rattle.std.specs.Str.{all_ascii_digits, bytes_eq}
 use Rattle.std.proofs.lemmas.Bool.{and_parts}
 use Rattle.std.proofs.lemmas.List.Elements.{All-nil, All-cons, All-head, All-tail}
 use Rattle.std.proofs.lemmas.Slice.Eq.{bytes_eq-Decides}
-use Rattle.vrx_core.specs.SettingsFault.{given, types_of, ssrcs_of}
+use Rattle.vrx_core.specs.machine.SettingsFault.{given, types_of, ssrcs_of}
 use Rattle.vrx_core.specs.declared.settings.Settings.{Settings}
 use Rattle.vrx_core.specs.declared.settings.Red.{Red}
 use Rattle.vrx_core.specs.declared.settings.Rtx.{Rtx}

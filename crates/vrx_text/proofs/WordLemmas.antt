@@ -47,8 +47,8 @@ word-means count kind content read (Other other) means =
       ne_eqb kind 200 is.no_report.0,
       ne_eqb kind 201 is.no_report.1,
       ne_eqb kind 203 is.no_bye,
-      other_format 205 count kind (λ same. (is.other_format (inl same)).0),
-      other_format 206 count kind (λ same. (is.other_format (inr same)).0),
+      other_format 205 count kind (λ same. (is.other_nack same).0),
+      other_format 206 count kind (λ same. (is.other_pli same).0),
     ) (ap (λ (n : ℕ). message_word (Other n)) means.0)
 
 -- ---- the packet at the front of octets

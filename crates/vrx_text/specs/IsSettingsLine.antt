@@ -5,7 +5,7 @@ use Rattle.std.specs.Int.{to_be_bytes, w32}
 use Rattle.std.specs.List.{All}
 use Rattle.std.specs.Option.{unwrap_or}
 use Rattle.hex.specs.Hex.{encode_lower}
-use Rattle.vrx_core.specs.SettingsFault.{types_of, ssrcs_of}
+use Rattle.vrx_core.specs.machine.SettingsFault.{types_of, ssrcs_of}
 use Rattle.vrx_core.specs.declared.settings.Settings.{Settings}
 use Rattle.vrx_core.specs.declared.settings.Red.{Red}
 use Rattle.vrx_core.specs.declared.settings.Rtx.{Rtx}

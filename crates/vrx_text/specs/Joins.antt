@@ -1,13 +1,20 @@
 -- How what is read of a text and of the text behind it join.
-use Rattle.std.specs.Prelude.{◌≡◌, ℕ, ◌+◌, List, ◌++◌, length}
+use Rattle.std.specs.Prelude.{◌≡◌, ◌≢◌, ℕ, ◌+◌, List, [], ◌∷◌, ◌++◌, length}
 use Rattle.vrx_core.specs.declared.event.Event.{Event}
 use Rattle.vrx_text.specs.Line.{lines_of}
 use Rattle.vrx_text.specs.Reading.{Reading, sound, reading}
-use Rattle.vrx_text.specs.Reader.{AreWhole}
+use Rattle.vrx_text.specs.Reader.{AreWhole, HasNoFeed}
 
 -- the lines of whole lines and of what stands behind them are the lines of both
 abbrev pub LinesJoin : Type 0
 LinesJoin = (octets more : List ℕ) → AreWhole octets → lines_of (octets ++ more) ≡ lines_of octets ++ lines_of more
+
+-- octets without a line feed, ended by one, are one line; and so are such octets at the end of a text, if there are some
+abbrev pub OneLine : Type 0
+OneLine = (line : List ℕ) → HasNoFeed line → lines_of (line ++ 10 ∷ []) ≡ line ∷ []
+
+abbrev pub LastLine : Type 0
+LastLine = (line : List ℕ) → HasNoFeed line → line ≢ [] → lines_of line ≡ line ∷ []
 
 -- events, and then what others give
 abbrev pub behind_events : List (ℕ × Event) → Reading → Reading

@@ -1,6 +1,6 @@
 -- The lines of a capture, and what each says. A capture is octets: a line ends before a line feed, and what stands
 -- after the last line feed is a line where it isn't empty.
-use Rattle.std.specs.Prelude.{ℕ, Bool, true, not, ◌&&◌, ◌||◌, ◌==◌, nat_lt, nat_le, if◌then◌else◌, List, [], ◌∷◌, length, drop, codes, Option, Some, None, is_some, is_none}
+use Rattle.std.specs.Prelude.{◌≡◌, ◌≤◌, ℕ, Bool, true, not, ◌&&◌, ◌||◌, ◌==◌, nat_lt, nat_le, if◌then◌else◌, List, [], ◌∷◌, length, drop, codes, Option, Some, None, is_some, is_none}
 use Rattle.std.specs.List.{list_any, position_or_len}
 use Rattle.std.specs.Option.{option_map}
 use Rattle.std.specs.Result.{result_ok}
@@ -34,6 +34,10 @@ most_lines = 2097152
 -- the longest line that may be taken, in octets
 abbrev pub longest_line : ℕ
 longest_line = 20000
+
+-- octets are a part of a line that may be taken yet: no line feed is among them, and they aren't too long
+abbrev pub IsPart : List ℕ → Type 0
+IsPart octets = (feed_place octets ≡ length octets) × (length octets ≤ longest_line)
 
 -- the greatest moment that a line tells: twelve digits
 abbrev pub latest_moment : ℕ

@@ -3,7 +3,7 @@
 use Rattle.std.specs.Prelude.{◌≡◌, ◌⊎◌, ℕ, ◌+◌, ◌<◌, ◌≤◌, Bool, true, false, List, [], ◌∷◌, ◌++◌, length, Option, Some, None, Result, Ok, Err}
 use Rattle.std.specs.Option.{option_map_or}
 use Rattle.vrx_io.specs.Source.{IsSpent}
-use Rattle.vrx_text.specs.Line.{feed_place, lines_of, longest_line, most_lines}
+use Rattle.vrx_text.specs.Line.{feed_place, lines_of, longest_line, most_lines, IsPart}
 use Rattle.vrx_text.specs.Reading.{Reading, sound, bad_at, reading}
 use Rattle.vrx_text.specs.Ahead.{ahead}
 use Rattle.vrx_text.specs.declared.line.LineReason.{LineReason}
@@ -77,22 +77,14 @@ IsNext old new read gone (Err faults.ReadFault) = (says old gone ≡ sound []) �
 -- want of memory: the lines say nothing
 IsNext old new read gone (Err faults.NoMemory) = (says old gone ≡ sound []) × (new.events ≡ old.events) × (new.bad ≡ None)
 
--- what a reader kept, and these octets that it read behind it, are whole lines that say nothing, and a part of a line
-pub record HoldsNothing (reader : Reader) (early : List ℕ) : Type 0 where
+-- octets that a reader kept and read are whole lines that say nothing, and a part of a line that may be taken yet
+pub record SayNothing (reader : Reader) (octets : List ℕ) : Type 0 where
   pub lines : List ℕ
   pub part : List ℕ
-  pub kept : reader.kept ++ early ≡ lines ++ part
+  pub are : octets ≡ lines ++ part
   pub whole : AreWhole lines
-  pub no_feed : HasNoFeed part
+  pub short : IsPart part
   pub nothing : says reader lines ≡ sound []
-
--- a call read so: its last read gave the last octets, maybe none; and before that all that was kept and read said
--- nothing
-pub record ReadsLazily (reader : Reader) (before after : Option (List ℕ)) : Type 0 where
-  pub early : List ℕ
-  pub last : List ℕ
-  pub source : before ≡ ahead (early ++ last) after
-  pub nothing : HoldsNothing reader early
 
 -- there is no line, or none that may be taken
 abbrev pub HasNoHead : List (List ℕ) → Type 0

@@ -51,8 +51,8 @@ pub record GoesOn (old new : Reader) (before after : Option (List ℕ)) : Type 0
   pub events : new.events ≡ old.events
   pub bad : new.bad ≡ None
 
--- the answer to a step: none where it passed over a line that says nothing
-abbrev pub IsStep : Reader → Reader → Option (List ℕ) → Option (List ℕ) → Result (Option Line) LineFault → Type 0
-IsStep old new before after (Ok None) = GoesOn old new before after
-IsStep old new before after (Ok (Some line)) = (passes : Passes old new before after) × IsNext old new passes.read passes.gone (Ok line)
-IsStep old new before after (Err fault) = (passes : Passes old new before after) × IsNext old new passes.read passes.gone (Err fault)
+-- the answer to a step, which read its octets so: none if it passed over a line that says nothing
+abbrev pub IsStep : (List ℕ → Type 0) → Reader → Reader → Option (List ℕ) → Option (List ℕ) → Result (Option Line) LineFault → Type 0
+IsStep so old new before after (Ok None) = (goes : GoesOn old new before after) × so goes.passes.read
+IsStep so old new before after (Ok (Some line)) = (passes : Passes old new before after) × IsNext old new passes.read passes.gone (Ok line) × so passes.read
+IsStep so old new before after (Err fault) = (passes : Passes old new before after) × IsNext old new passes.read passes.gone (Err fault) × so passes.read

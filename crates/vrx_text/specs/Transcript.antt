@@ -6,7 +6,7 @@ use Rattle.hex.specs.Hex.{encode_lower}
 use Rattle.arrayvec.specs.ArrayVec.{ArrayVec}
 use Rattle.vrx_rtcp.specs.declared.feedback.Feedback.{Feedback}
 use Rattle.vrx_codec.specs.Meaning.{Meaning}
-use Rattle.vrx_core.specs.Machine.{Reply, ToDatagram, ToTick, ToPull, reply}
+use Rattle.vrx_core.specs.machine.Machine.{Reply, ToDatagram, ToTick, ToPull, reply}
 use Rattle.vrx_core.specs.declared.settings.Settings.{Settings}
 use Rattle.vrx_core.specs.declared.event.Event.{Event}
 use Rattle.vrx_core.specs.declared.reply.Reason.{Reason}

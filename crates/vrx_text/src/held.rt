@@ -1,15 +1,17 @@
 //! The octets that were read and not passed over yet.
 
-ghost use Rattle.std.specs.Prelude.{◌≡◌, ℕ, ◌+◌, ◌<◌, ◌≤◌, ◌⊎◌, true, false, [], Ok, ◌++◌, length, take, drop, IfOk, IfSome, IsNone, OnOk, OnErr, vec_len};
-ghost use Rattle.vrx_text.specs.Line.{feed_place, longest_line};
+ghost use Rattle.std.specs.Prelude.{◌≡◌, ℕ, ◌+◌, ◌<◌, ◌≤◌, ◌⊎◌, true, false, List, [], Ok, ◌++◌, length, take, drop, IfOk, IfSome, IsNone, OnOk, OnErr, vec_len};
+ghost use Rattle.vrx_text.specs.Line.{feed_place, longest_line, IsPart};
 ghost use Rattle.vrx_io.specs.Faults.{Rose};
+ghost use Rattle.vrx_io.specs.Reads.{octets_read, ReadsSo};
 ghost use Rattle.vrx_io.specs.Source.{IsSpent};
 ghost use Rattle.vrx_text.specs.Ahead.{ahead};
 ghost use Rattle.vrx_text.specs.Found.{IsFound};
-ghost use Rattle.vrx_text.specs.Held.{ReadsOn, ReadsForLine};
+ghost use Rattle.vrx_text.specs.Held.{ReadsOn};
 
 use crate::line::LONGEST_LINE;
 use crate::words::{from, upto};
+use memchr::memchr;
 use std::alloc::Global;
 use std::marker::Model;
 use vrx_io::{Failed, Source};
@@ -32,17 +34,15 @@ pub(crate) enum Found {
 
 /// The place of the first line feed, or the length where there is none, of octets of which the first `clear` are
 /// none.
-#[tactic(auto, using(crate::proofs::PlaceLemmas::place_here, crate::proofs::PlaceLemmas::place_later, crate::proofs::PlaceLemmas::place_within))]
+#[tactic(auto, using(crate::proofs::PlaceLemmas::found_behind))]
 fn line_feed_from(octets: &[u8], clear: usize) -> usize
     requires { clear ≤ feed_place octets.now }
     ensures { result ≡ feed_place octets.now }
 {
-    for i in clear..octets.len() {
-        if octets[i] == LINE_FEED {
-            return i;
-        }
+    match memchr(LINE_FEED, from(octets, clear)) {
+        Some(place) => clear + place,
+        None => octets.len(),
     }
-    octets.len()
 }
 
 /// Moves some octets to the front.
@@ -74,11 +74,13 @@ fn read_from<S: Source>(source: &mut S, buffer: &mut [u8], at: usize) -> Result<
     requires { at < length buffer.old }
     ensures count { IfOk result (λ n. at + n ≤ length buffer.old) }
     ensures front { take at buffer.new ≡ take at buffer.old }
+    ensures one { S.is_read source.old (octets_read result (drop at buffer.new)) source.new }
     ensures next { IfOk result (λ n.
         S.left source.old ≡ ahead (take n (drop at buffer.new)) (S.left source.new)) }
     ensures end { result ≡ Ok 0 → IsSpent (S.left source.new) }
     ensures failed { OnErr result (S.left source.new ≡ S.left source.old) }
     ensures later { S.faults source.old ≤ S.faults source.new }
+    ensures uncounted { OnOk result (S.faults source.new ≡ S.faults source.old) }
     ensures cause { OnErr result (Rose (S.faults source.old) (S.faults source.new)) }
 {
     source.read(&mut buffer[at..])
@@ -90,11 +92,13 @@ fn read_behind<S: Source>(source: &mut S, buffer: &mut Vec<u8>, at: usize) -> Re
     ensures len { vec_len buffer.new ≡ vec_len buffer.old }
     ensures count { IfOk result (λ n. at + n ≤ vec_len buffer.old) }
     ensures front { take at buffer.new.items ≡ take at buffer.old.items }
+    ensures one { S.is_read source.old (octets_read result (drop at buffer.new.items)) source.new }
     ensures next { IfOk result (λ n.
         S.left source.old ≡ ahead (take n (drop at buffer.new.items)) (S.left source.new)) }
     ensures end { result ≡ Ok 0 → IsSpent (S.left source.new) }
     ensures failed { OnErr result (S.left source.new ≡ S.left source.old) }
     ensures later { S.faults source.old ≤ S.faults source.new }
+    ensures uncounted { OnOk result (S.faults source.new ≡ S.faults source.old) }
     ensures cause { OnErr result (Rose (S.faults source.old) (S.faults source.new)) }
 {
     read_from(source, buffer.as_mut_slice(), at)
@@ -112,6 +116,7 @@ fn read_held<S: Source>(
     ensures len { vec_len buffer.new ≡ vec_len buffer.old }
     ensures count { IfOk result (λ n. start + len + n ≤ vec_len buffer.old) }
     ensures same { take len (drop start buffer.new.items) ≡ take len (drop start buffer.old.items) }
+    ensures one { S.is_read source.old (octets_read result (drop (start + len) buffer.new.items)) source.new }
     ensures grown { IfOk result (λ n. take (len + n) (drop start buffer.new.items) ≡
         take len (drop start buffer.old.items) ++ take n (drop (start + len) buffer.new.items)) }
     ensures clear { IfOk result (λ n. feed_place (take len (drop start buffer.old.items)) ≤
@@ -121,6 +126,7 @@ fn read_held<S: Source>(
     ensures end { result ≡ Ok 0 → IsSpent (S.left source.new) }
     ensures failed { OnErr result (S.left source.new ≡ S.left source.old) }
     ensures later { S.faults source.old ≤ S.faults source.new }
+    ensures uncounted { OnOk result (S.faults source.new ≡ S.faults source.old) }
     ensures cause { OnErr result (Rose (S.faults source.old) (S.faults source.new)) }
 {
     read_behind(source, buffer, start + len)
@@ -218,10 +224,13 @@ impl Held {
         requires short { length self.old.kept ≤ longest_line }
         requires going { self.old.ended ≡ false }
         ensures reads { OnOk result (ReadsOn self.old self.new (S.left source.old) (S.left source.new)) }
+        ensures one { (octets : List ℕ) × S.is_read source.old octets source.new ×
+            (self.new.kept ≡ self.old.kept ++ octets) }
         ensures grows { OnOk result ((self.new.ended ≡ true) ⊎ (length self.old.kept < length self.new.kept)) }
         ensures failed { OnErr result
             ((self.new ≡ self.old) × (S.left source.new ≡ S.left source.old)) }
         ensures later { S.faults source.old ≤ S.faults source.new }
+        ensures uncounted { OnOk result (S.faults source.new ≡ S.faults source.old) }
         ensures cause { OnErr result (Rose (S.faults source.old) (S.faults source.new)) }
     {
         self.start = make_room(&mut self.buffer, self.start, self.len);
@@ -277,13 +286,13 @@ impl Held {
     /// `Failed` what was read before is held.
     pub(crate) fn find<S: Source>(&mut self, source: &mut S) -> Result<Found, Failed>
         ensures found { IfOk result (IsFound self.new.kept self.new.ended) }
-        ensures reads { ReadsOn self.old self.new (S.left source.old) (S.left source.new) }
-        ensures lazy { ((source.new ≡ source.old) × (self.new ≡ self.old)) ⊎
-            (ReadsForLine self.old.kept (S.left source.old) (S.left source.new) ×
-            (self.old.ended ≡ false)) }
+        ensures reads { (reads : ReadsOn self.old self.new (S.left source.old) (S.left source.new)) ×
+            ReadsSo S.is_read IsPart self.old.kept source.old source.new reads.read }
+        ensures idle { self.old.ended ≡ true → source.new ≡ source.old }
         ensures failed { OnErr result ((feed_place self.new.kept ≡ length self.new.kept) ×
             (self.new.ended ≡ false) × (length self.new.kept ≤ longest_line)) }
         ensures later { S.faults source.old ≤ S.faults source.new }
+        ensures uncounted { OnOk result (S.faults source.new ≡ S.faults source.old) }
         ensures cause { OnErr result (Rose (S.faults source.old) (S.faults source.new)) }
     {
         'reads: loop {

@@ -9,9 +9,16 @@ ghost use Rattle.vrx_text.specs.Line.{latest_moment, longest_line, most_lines, e
 ghost use Rattle.vrx_text.specs.IsLine.{IsDatagramLine, IsBlankLine, IsFirstReason};
 ghost use Rattle.vrx_text.specs.declared.line.LineKind.TheVariants.{Blank, Happens, Wrong};
 ghost use Rattle.vrx_text.specs.declared.line.LineReason.{LineReason};
-ghost use Rattle.vrx_text.specs.Joins.{LinesJoin, ReadingsJoin};
+ghost use Rattle.vrx_text.specs.Joins.{OneLine, LastLine, LinesJoin, ReadingsJoin};
 ghost use Rattle.vrx_text.specs.Reading.{sound, reading};
 ghost use Rattle.vrx_text.specs.Readings.{AreGood, HasBad};
+
+/// What one line of a text is: octets without a line feed, ended by a line feed or by the end of the text. The
+/// function does nothing.
+pub fn one_line()
+    ensures ended { OneLine }
+    ensures last { LastLine }
+{}
 
 /// How the answers of several calls join: the lines of whole lines and of what stands behind them, and what these
 /// lines give. The function does nothing.

@@ -23,24 +23,18 @@
 
 mod held;
 mod inspection;
-#[cfg(test)]
-mod inspection_tests;
 mod laws;
 mod line;
 mod lines;
 mod settings_laws;
 mod settings_line;
 #[cfg(test)]
-mod settings_tests;
-#[cfg(test)]
 mod tests;
 mod transcript;
-#[cfg(test)]
-mod transcript_tests;
 mod words;
 
 pub use inspection::inspect_text;
-pub use laws::{lines_join, lines_mean, readings_are, reasons_mean};
+pub use laws::{lines_join, lines_mean, one_line, readings_are, reasons_mean};
 pub use line::{LineKind, LineReason, read_line};
 pub use lines::{HeadFault, Line, LineFault, Lines};
 pub use settings_laws::settings_lines_mean;

@@ -162,7 +162,7 @@ pub fn read_line(
     events: u32,
     line: &[u8],
 ) -> Result<LineKind, NoMemory>
-    ensures { IfOk result (λ kind. kind ≡ line_at max k events line.now) }
+    ensures kind { IfOk result (λ kind. kind ≡ line_at max k events line.now) }
 {
     if k > MOST_LINES {
         return Ok(LineKind::Wrong(LineReason::Lines));

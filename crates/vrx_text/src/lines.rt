@@ -3,8 +3,9 @@
 ghost use Rattle.std.specs.Prelude.{is_some, ◌≡◌, ◌≢◌, ℕ, ◌+◌, ◌<◌, ◌≤◌, ◌⊎◌, true, false, Ok, Err, Some, None, length, take, IfOk, IfSome, OnOk, OnErr, MatchResult};
 ghost use Rattle.std.specs.Option.{option_map};
 ghost use Rattle.vrx_io.specs.Faults.{Rose};
-ghost use Rattle.vrx_text.specs.Line.{feed_place, line_at, longest_line, most_lines};
-ghost use Rattle.vrx_text.specs.Held.{ReadsOn, ReadsForLine};
+ghost use Rattle.vrx_io.specs.Reads.{ReadsSo};
+ghost use Rattle.vrx_text.specs.Line.{feed_place, line_at, longest_line, most_lines, IsPart};
+ghost use Rattle.vrx_text.specs.Held.{ReadsOn};
 ghost use Rattle.vrx_text.specs.Found.{IsFound};
 ghost use Rattle.vrx_text.specs.Step.{IsWithin};
 
@@ -92,12 +93,12 @@ impl Model for Lines {
 }
 
 impl Lines {
-    ghost use Rattle.vrx_text.specs.Reader.{opening, Passes, IsNext, IsHead, IsHeadFault, HasNoFeed, ReadsLazily};
+    ghost use Rattle.vrx_text.specs.Reader.{opening, Passes, IsNext, IsHead, IsHeadFault, HasNoFeed, SayNothing};
     ghost use Rattle.vrx_text.specs.Step.{IsTaken, IsStep, KeepsCounts, held_by, long_reason, passed};
 
     /// A reader that has given nothing yet, and gives `max_events` events at most.
     pub fn new(alloc: Global, max_events: u32) -> Result<Lines, NoMemory>
-        ensures { IfOk result (λ lines. lines ≡ opening max_events) }
+        ensures fresh { IfOk result (λ lines. lines ≡ opening max_events) }
     {
         Ok(Lines {
             alloc,
@@ -112,16 +113,16 @@ impl Lines {
     /// What stands at the front of what is held and what the source has left.
     fn find<S: Source>(&mut self, source: &mut S) -> Result<Found, Failed>
         ensures found { IfOk result (IsFound self.new.kept self.new.ended) }
-        ensures reads { ReadsOn (held_by self.old) (held_by self.new) (S.left source.old) (S.left source.new) }
+        ensures reads { (reads : ReadsOn (held_by self.old) (held_by self.new) (S.left source.old) (S.left source.new)) ×
+            ReadsSo S.is_read IsPart self.old.kept source.old source.new reads.read }
         ensures counts { KeepsCounts self.old self.new }
-        ensures lazy { (source.new ≡ source.old) ⊎
-            (ReadsForLine self.old.kept (S.left source.old) (S.left source.new) ×
-            (self.old.ended ≡ false)) }
+        ensures idle { self.old.ended ≡ true → source.new ≡ source.old }
         ensures failed { OnErr result (HasNoFeed self.new.kept × (self.new.ended ≡ false) ×
             (length self.new.kept ≤ longest_line)) }
         ensures tells { is_some (S.left source.new) ≡ is_some (S.left source.old) }
         ensures later { S.faults source.old ≤ S.faults source.new }
         ensures cause { OnErr result (Rose (S.faults source.old) (S.faults source.new)) }
+        ensures uncounted { OnOk result (S.faults source.new ≡ S.faults source.old) }
     {
         self.held.find(source)
     }
@@ -202,15 +203,16 @@ impl Lines {
     /// Takes the next line, where none was bad so far.
     fn step<S: Source>(&mut self, source: &mut S) -> Result<Option<Line>, LineFault>
         requires { self.old.bad ≡ None }
-        ensures step { IsStep self.old self.new (S.left source.old) (S.left source.new) result }
-        ensures lazy { (source.new ≡ source.old) ⊎
-            (ReadsForLine self.old.kept (S.left source.old) (S.left source.new) ×
-            (self.old.ended ≡ false)) }
+        ensures step { IsStep (ReadsSo S.is_read IsPart self.old.kept source.old source.new)
+            self.old self.new (S.left source.old) (S.left source.new) result }
+        ensures idle { self.old.ended ≡ true → source.new ≡ source.old }
         ensures passed { result ≡ Ok None →
             (self.new.given ≡ self.old.given + 1) × (self.old.given + 1 ≤ most_lines) }
         ensures later { S.faults source.old ≤ S.faults source.new }
         ensures cause { result ≡ Err LineFault.ReadFault →
             Rose (S.faults source.old) (S.faults source.new) }
+        ensures uncounted { result ≢ Err LineFault.ReadFault →
+            S.faults source.new ≡ S.faults source.old }
     {
         match self.find(source) {
             Err(_) => Err(LineFault::ReadFault),
@@ -224,13 +226,14 @@ impl Lines {
     fn next_on<S: Source>(&mut self, source: &mut S) -> Result<Line, LineFault>
         requires { self.old.bad ≡ None }
         ensures next { (passes : Passes self.old self.new (S.left source.old) (S.left source.new)) ×
-            IsNext self.old self.new passes.read passes.gone result }
-        ensures lazy { (source.new ≡ source.old) ⊎
-            ReadsLazily self.old (S.left source.old) (S.left source.new) }
+            IsNext self.old self.new passes.read passes.gone result ×
+            ReadsSo S.is_read (SayNothing self.old) self.old.kept source.old source.new passes.read }
         ensures idle { self.old.ended ≡ true → source.new ≡ source.old }
         ensures later { S.faults source.old ≤ S.faults source.new }
         ensures cause { result ≡ Err LineFault.ReadFault →
             Rose (S.faults source.old) (S.faults source.new) }
+        ensures uncounted { result ≢ Err LineFault.ReadFault →
+            S.faults source.new ≡ S.faults source.old }
     {
         'lines: loop {
             match self.step(source) {
@@ -247,14 +250,15 @@ impl Lines {
     /// stays for good.
     pub fn next<S: Source>(&mut self, source: &mut S) -> Result<Line, LineFault>
         ensures next { (passes : Passes self.old self.new (S.left source.old) (S.left source.new)) ×
-            IsNext self.old self.new passes.read passes.gone result }
-        ensures lazy { (source.new ≡ source.old) ⊎
-            ReadsLazily self.old (S.left source.old) (S.left source.new) }
+            IsNext self.old self.new passes.read passes.gone result ×
+            ReadsSo S.is_read (SayNothing self.old) self.old.kept source.old source.new passes.read }
         ensures idle { self.old.ended ≡ true → source.new ≡ source.old }
         ensures tells { is_some (S.left source.new) ≡ is_some (S.left source.old) }
         ensures later { S.faults source.old ≤ S.faults source.new }
         ensures cause { result ≡ Err LineFault.ReadFault →
             Rose (S.faults source.old) (S.faults source.new) }
+        ensures uncounted { result ≢ Err LineFault.ReadFault →
+            S.faults source.new ≡ S.faults source.old }
         ensures stays { IfSome self.old.bad (λ bad. (result ≡ Err (LineFault.Bad bad.0 bad.1)) ×
             (self.new ≡ self.old) × (source.new ≡ source.old)) }
     {
@@ -285,15 +289,16 @@ impl Lines {
         ensures passes { (passes : Passes self.old self.new (S.left source.old) (S.left source.new)) ×
             MatchResult result
             (λ head. IsHead self.old self.new passes.read passes.gone (option_map (λ line. line.items) head))
-            (λ fault. IsHeadFault self.new passes.gone fault) }
+            (λ fault. IsHeadFault self.new passes.gone fault) ×
+            ReadsSo S.is_read IsPart self.old.kept source.old source.new passes.read }
         ensures counts { (self.new.events ≡ self.old.events) × (self.new.bad ≡ self.old.bad) }
-        ensures lazy { (source.new ≡ source.old) ⊎
-            ReadsForLine self.old.kept (S.left source.old) (S.left source.new) }
         ensures idle { self.old.ended ≡ true → source.new ≡ source.old }
         ensures tells { is_some (S.left source.new) ≡ is_some (S.left source.old) }
         ensures later { S.faults source.old ≤ S.faults source.new }
         ensures cause { result ≡ Err HeadFault.ReadFault →
             Rose (S.faults source.old) (S.faults source.new) }
+        ensures uncounted { result ≢ Err HeadFault.ReadFault →
+            S.faults source.new ≡ S.faults source.old }
     {
         if self.given >= MOST_LINES {
             return Ok(None);

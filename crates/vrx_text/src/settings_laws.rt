@@ -9,6 +9,6 @@ ghost use Rattle.vrx_text.specs.declared.settings_line.CodecName.{CodecName};
 /// What the grammar of the settings line means: a line tells a codec and settings just where it is spelled so. The
 /// function does nothing.
 pub fn settings_lines_mean()
-    ensures { (line : List ℕ) (codec : CodecName) (settings : Settings) →
+    ensures spelled { (line : List ℕ) (codec : CodecName) (settings : Settings) →
         ((settings_in line ≡ Some (codec, settings)) ↔ IsSettingsLine line codec settings) }
 {}

@@ -218,7 +218,7 @@ fn last_interval(text: &[u8]) -> Option<u32>
 /// Settings that read may still be refused by `vrx_core::Engine::new`, as those with a payload type of 64 are.
 #[tactic(auto, unfolding(crate::specs::SettingsLine::settings_in))]
 pub fn read_settings(line: &[u8]) -> Option<(CodecName, Settings)>
-    ensures { result ≡ settings_in line.now }
+    ensures settings { result ≡ settings_in line.now }
 {
     let (codec, rest) = codec_field(b"vrx 1 codec=", line)?;
     let (media_ssrc, rest) = ssrc_field(b" ssrc=", rest)?;

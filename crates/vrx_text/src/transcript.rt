@@ -1,10 +1,10 @@
 //! The lines of a transcript.
 
-ghost use Rattle.std.specs.Prelude.{◌≡◌, ◌++◌, codes, IfOk, OnOk};
+ghost use Rattle.std.specs.Prelude.{◌≡◌, ◌+◌, ◌*◌, ◌++◌, codes, drop, length, take, IfOk, OnOk};
 ghost use Rattle.std.specs.Fmt.{decimal};
 ghost use Rattle.std.specs.String.{string_bytes};
 ghost use Rattle.hex.specs.Hex.{encode_lower};
-ghost use Rattle.vrx_core.specs.Machine.{ToDatagram, ToTick, ToPull};
+ghost use Rattle.vrx_core.specs.machine.Machine.{ToDatagram, ToTick, ToPull};
 ghost use Rattle.vrx_text.specs.Transcript.{reason_text, kind_text, line_feed, what_text as what_text_of, repaired_line as repaired_line_of, repaired_text, nack_text, pli_text, feedback_text, frame_text, text_of, line_reason_text, error_reason_text, error_line};
 
 use crate::line::LineReason;
@@ -123,6 +123,30 @@ fn frame_kind(alloc: Global, key: bool, ts: u32) -> Result<String, NoMemory>
     Ok(format!(in alloc; "{kind} {ts} ")?)
 }
 
+/// Writes the hexadecimal digits of octets into a text from a place on, up to its end.
+fn write_digits(octets: &[u8], text: &mut [u8], at: usize)
+    requires { length text.old ≡ at + 2 * length octets.now }
+    ensures front { take at text.new ≡ take at text.old }
+    ensures digits { drop at text.new ≡ encode_lower octets.now }
+{
+    hex::encode_to_slice(octets, &mut text[at..]).unwrap();
+}
+
+/// Puts the hexadecimal digits of octets last, and takes the memory for them and a line feed once.
+fn push_digits(octets: &[u8], text: &mut Vec<u8>) -> Result<(), NoMemory>
+    ensures { OnOk result (text.new.items ≡ text.old.items ++ encode_lower octets.now) }
+{
+    let start = text.len();
+    let end = start
+        .checked_add(octets.len())
+        .and_then(|half| half.checked_add(octets.len()))
+        .ok_or(NoMemory)?;
+    text.reserve(end - start + 1)?;
+    text.resize(end, 0)?;
+    write_digits(octets, text.as_mut_slice(), start);
+    Ok(())
+}
+
 /// A frame's line.
 fn frame_line(alloc: Global, k: u32, frame: &Frame) -> Result<Vec<u8>, NoMemory>
     ensures { IfOk result (λ text.
@@ -130,9 +154,8 @@ fn frame_line(alloc: Global, k: u32, frame: &Frame) -> Result<Vec<u8>, NoMemory>
 {
     let mut text = frame_head(alloc, k, frame.first, frame.last)?;
     let kind = frame_kind(alloc, frame.key, frame.ts)?;
-    let digits = hex::encode(alloc, frame.bytes.as_slice())?;
     text.extend_from_slice(kind.as_bytes())?;
-    text.extend_from_slice(digits.as_bytes())?;
+    push_digits(frame.bytes.as_slice(), &mut text)?;
     text.push(b'\n')?;
     Ok(text)
 }
@@ -238,7 +261,7 @@ fn tick_line(alloc: Global, k: u32) -> Result<Vec<u8>, NoMemory>
 /// It fails only for want of memory.
 #[tactic(auto, unfolding(crate::specs::Transcript::text_of))]
 pub fn text_of_handled(alloc: Global, k: u32, reply: &Handled) -> Result<Vec<u8>, NoMemory>
-    ensures { IfOk result (λ text. text.items ≡ text_of k (ToDatagram reply.now)) }
+    ensures text { IfOk result (λ text. text.items ≡ text_of k (ToDatagram reply.now)) }
 {
     let mut text = what_text(alloc, k, reply.what)?;
     push_repaired(alloc, k, reply.repaired.as_slice(), &mut text)?;
@@ -252,7 +275,7 @@ pub fn text_of_handled(alloc: Global, k: u32, reply: &Handled) -> Result<Vec<u8>
 /// It fails only for want of memory.
 #[tactic(auto, unfolding(crate::specs::Transcript::text_of))]
 pub fn text_of_tick(alloc: Global, k: u32, feedback: &Feedback) -> Result<Vec<u8>, NoMemory>
-    ensures { IfOk result (λ text. text.items ≡ text_of k (ToTick feedback.now)) }
+    ensures text { IfOk result (λ text. text.items ≡ text_of k (ToTick feedback.now)) }
 {
     let mut text = tick_line(alloc, k)?;
     push_feedback(alloc, k, feedback, &mut text)?;
@@ -262,7 +285,7 @@ pub fn text_of_tick(alloc: Global, k: u32, feedback: &Feedback) -> Result<Vec<u8
 /// The line of the reply to the pull of line `k`. It fails only for want of memory.
 #[tactic(auto, unfolding(crate::specs::Transcript::text_of))]
 pub fn text_of_pulled(alloc: Global, k: u32, reply: &Pulled) -> Result<Vec<u8>, NoMemory>
-    ensures { IfOk result (λ text. text.items ≡ text_of k (ToPull reply.now)) }
+    ensures text { IfOk result (λ text. text.items ≡ text_of k (ToPull reply.now)) }
 {
     match reply {
         Pulled::NotReady => not_ready_text(alloc, k),
@@ -299,7 +322,7 @@ fn error_reason_text(reason: ErrorReason) -> &'static str
 /// The last line of a transcript, where line `k` is bad for this reason. It fails only for want of memory.
 #[tactic(auto, unfolding(crate::specs::Transcript::error_line))]
 pub fn text_of_error(alloc: Global, k: u32, reason: ErrorReason) -> Result<Vec<u8>, NoMemory>
-    ensures { IfOk result (λ text. text.items ≡ error_line k reason) }
+    ensures text { IfOk result (λ text. text.items ≡ error_line k reason) }
 {
     let word = error_reason_text(reason);
     Ok(format!(in alloc; "error line {k} {word}\n")?.into_bytes())

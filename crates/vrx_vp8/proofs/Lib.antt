@@ -1,3 +1,3 @@
-pub mod DescriptorLemmas
-pub mod WrittenLemmas
-pub mod Rows
+mod DescriptorLemmas
+mod WrittenLemmas
+mod Rows

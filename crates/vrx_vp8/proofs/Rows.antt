@@ -1,14 +1,15 @@
 -- The payload descriptor on rows worked by hand.
 use Rattle.std.specs.Prelude.{◌≡◌, true, false, [], ◌∷◌, refl, Some, None, Ok, Err}
 use Rattle.vrx_codec.specs.declared.part.Start.TheVariants.{Yes}
+use Rattle.vrx_vp8.specs.declared.faults.TheConstants.{SHORT, NO_BODY}
 use Rattle.vrx_vp8.specs.Descriptor.{read_part}
 
 -- 80: the descriptor runs past the end
-pub descriptor_cut : read_part (128 ∷ []) ≡ Err (record { code = 1; at = 1 })
+pub descriptor_cut : read_part (128 ∷ []) ≡ Err (record { code = SHORT; at = 1 })
 descriptor_cut = refl
 
 -- 10: no body follows the descriptor
-pub body_missing : read_part (16 ∷ []) ≡ Err (record { code = 2; at = 1 })
+pub body_missing : read_part (16 ∷ []) ≡ Err (record { code = NO_BODY; at = 1 })
 body_missing = refl
 
 -- 90e08001050000aa: the start of a keyframe, with layers

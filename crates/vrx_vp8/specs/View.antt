@@ -2,6 +2,6 @@
 use Rattle.vrx_vp8.specs.declared.descriptor.FieldsSeen.{FieldsSeen}
 use Rattle.vrx_vp8.specs.Descriptor.{Fields}
 
--- the fields, without where what follows them lies in memory
+-- the fields, and what follows them as a list, wherever it lies in memory
 abbrev pub view_fields : FieldsSeen → Fields
 view_fields f = record { start = f.start; layers = f.layers; body = f.body.now }

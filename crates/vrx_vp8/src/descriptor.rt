@@ -3,16 +3,13 @@
 ghost use Rattle.std.specs.Prelude.{◌≡◌, ◌+◌, ◌*◌, ◌/◌, ◌%◌, ◌<◌, ◌&&◌, if◌then◌else◌, Some, None};
 ghost use Rattle.std.specs.Option.{option_map};
 ghost use Rattle.vrx_codec.specs.View.{view_result};
-ghost use Rattle.vrx_vp8.specs.Descriptor.{bit as bit_of, octet_if as octet_if_of, fields_behind as fields_behind_of, fields as fields_of, part_with as part_with_of, read_part as read_part_of};
+ghost use Rattle.vrx_codec.specs.Octet.{bit as bit_of};
+ghost use Rattle.vrx_vp8.specs.Descriptor.{octet_if as octet_if_of, fields_behind as fields_behind_of, fields as fields_of, part_with as part_with_of, read_part as read_part_of};
 ghost use Rattle.vrx_vp8.specs.View.{view_fields};
 
-use vrx_codec::{Layers, Part, PartFault, Start};
-
-/// The fault of a descriptor that runs past the end.
-const SHORT: u8 = 1;
-
-/// The fault of a descriptor that nothing follows.
-const NO_BODY: u8 = 2;
+use crate::bits::{BIT_I, BIT_K, BIT_L, BIT_M, BIT_S, BIT_T, BIT_X, BIT_Y};
+use crate::faults::{NO_BODY, SHORT};
+use vrx_codec::{Layers, Part, PartFault, Start, bit};
 
 /// The fields of a descriptor, and what follows it.
 #[derive(Clone, Copy)]
@@ -22,16 +19,8 @@ pub(crate) struct FieldsSeen<'a> {
     body: &'a [u8],
 }
 
-/// The bit of an octet that has this value.
-fn bit(octet: u8, value: u8) -> bool
-    requires { 0 < value }
-    ensures { result ≡ bit_of value octet }
-{
-    octet / value % 2 == 1
-}
-
-/// The next octet and what is behind it, where a flag says that it comes: else 0, and nothing is taken. None where it
-/// would stand past the end.
+/// The next octet and what follows it, if a flag says that it comes: else 0, and nothing is taken. None if it would
+/// stand past the end.
 fn octet_if(flag: bool, rest: &[u8]) -> Option<(u8, &[u8])>
     ensures { option_map (λ x. (x.0, x.1.now)) result ≡ octet_if_of flag rest.now }
 {
@@ -46,32 +35,32 @@ fn octet_if(flag: bool, rest: &[u8]) -> Option<(u8, &[u8])>
 
 /// The place among temporal layers that the octets of flags, of PictureID, of TL0PICIDX and of TID say.
 fn layers_of(flags: u8, picture: u8, low: u8, tl0: u8, tid: u8) -> Option<Layers>
-    ensures { result ≡ (if bit_of 128 picture && bit_of 64 flags && bit_of 32 flags
-        then Some (record { picture = picture % 128 * 256 + low; tl0 = tl0; tid = tid / 64; sync = bit_of 32 tid })
+    ensures { result ≡ (if bit_of BIT_M picture && bit_of BIT_L flags && bit_of BIT_T flags
+        then Some (record { picture = picture % 128 * 256 + low; tl0 = tl0; tid = tid / 64; sync = bit_of BIT_Y tid })
         else None) }
 {
-    if bit(picture, 128) && bit(flags, 64) && bit(flags, 32) {
+    if bit(picture, BIT_M) && bit(flags, BIT_L) && bit(flags, BIT_T) {
         Some(Layers {
             picture: u16::from(picture % 128) * 256 + u16::from(low),
             tl0,
             tid: tid / 64,
-            sync: bit(tid, 32),
+            sync: bit(tid, BIT_Y),
         })
     } else {
         None
     }
 }
 
-/// The fields behind the first octet and the octet of extension flags.
+/// The fields after the first octet and the octet of extension flags.
 fn fields_behind(head: u8, flags: u8, rest: &[u8]) -> Option<FieldsSeen<'_>>
     ensures { option_map view_fields result ≡ fields_behind_of head (flags, rest.now) }
 {
-    let (picture, rest) = octet_if(bit(flags, 128), rest)?;
-    let (low, rest) = octet_if(bit(picture, 128), rest)?;
-    let (tl0, rest) = octet_if(bit(flags, 64), rest)?;
-    let (tid, body) = octet_if(bit(flags, 32) || bit(flags, 16), rest)?;
+    let (picture, rest) = octet_if(bit(flags, BIT_I), rest)?;
+    let (low, rest) = octet_if(bit(picture, BIT_M), rest)?;
+    let (tl0, rest) = octet_if(bit(flags, BIT_L), rest)?;
+    let (tid, body) = octet_if(bit(flags, BIT_T) || bit(flags, BIT_K), rest)?;
     Some(FieldsSeen {
-        start: bit(head, 16) && head % 8 == 0,
+        start: bit(head, BIT_S) && head % 8 == 0,
         layers: layers_of(flags, picture, low, tl0, tid),
         body,
     })
@@ -82,7 +71,7 @@ fn fields(payload: &[u8]) -> Option<FieldsSeen<'_>>
     ensures { option_map view_fields result ≡ fields_of payload.now }
 {
     let (head, rest) = octet_if(true, payload)?;
-    let (flags, rest) = octet_if(bit(head, 128), rest)?;
+    let (flags, rest) = octet_if(bit(head, BIT_X), rest)?;
     fields_behind(head, flags, rest)
 }
 

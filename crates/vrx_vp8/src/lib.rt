@@ -16,10 +16,12 @@
 //! ```
 //!
 //! [`Vp8`] is the codec, and [`write_part`] writes what it reads. The grammar is `specs/IsDescriptor.antt
-//! IsDescriptor`.
+//! IsDescriptor`. [`faults`] names the faults, and [`bits`] the descriptor's bits.
 #![tactic(auto)]
 
+pub mod bits;
 mod descriptor;
+pub mod faults;
 mod laws;
 mod vp8;
 mod writing;

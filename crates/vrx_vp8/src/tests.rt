@@ -11,7 +11,7 @@ fn part_of<C: Codec>(payload: &[u8]) -> Result<Part<'_>, PartFault> {
     C::read_part(payload)
 }
 
-/// What the one part of a payload makes of a state, the octets so far, and those that it adds, by any codec.
+/// What the one part of a payload makes of a state, the octets then, and those that it adds, by any codec.
 fn joined<C: Codec>(
     alloc: Global,
     state: Join,

@@ -10,10 +10,13 @@ use vrx_codec::{Codec, Join, JoinFault, Part, PartFault};
 
 /// VP8 (RFC 7741 4). Its parts always join, to their bodies one after the other (RFC 7741 4.4).
 ///
-/// A payload is a descriptor and a body (RFC 7741 4.2). One that isn't read has fault 1 where its descriptor runs
-/// past the end, and else fault 2, where nothing follows the descriptor: both at the payload's end. A part is a start
-/// where S = 1 and PID = 0, and then says a keyframe where its body's first octet is even (RFC 7741 4.3). It has
-/// layers where X, I, L and T are 1 and the PictureID has 15 bits.
+/// A payload is a descriptor and a body (RFC 7741 4.2). One that isn't read has the fault [`SHORT`] if its descriptor
+/// runs past the end, and else [`NO_BODY`], since nothing follows the descriptor: both at the payload's end. A part
+/// is a start if S = 1 and PID = 0, and then says a keyframe if its body's first octet is even (RFC 7741 4.3). It has
+/// layers if X, I, L and T are 1 and the PictureID has 15 bits.
+///
+/// [`SHORT`]: crate::faults::SHORT
+/// [`NO_BODY`]: crate::faults::NO_BODY
 #[derive(Clone, Copy, Debug, PartialEq, Eq)]
 pub struct Vp8;
 

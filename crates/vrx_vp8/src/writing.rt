@@ -5,26 +5,27 @@ ghost use Rattle.vrx_codec.specs.Joining.{FitsLayers};
 ghost use Rattle.vrx_vp8.specs.Descriptor.{read_part};
 ghost use Rattle.vrx_vp8.specs.Writing.{start_bit as start_bit_of, written, said};
 
+use crate::bits::{BIT_I, BIT_L, BIT_M, BIT_S, BIT_T, BIT_X, BIT_Y};
 use std::alloc::Global;
 use vrx_codec::Layers;
 use vrx_num::NoMemory;
 
-/// The bits I, L and T: PictureID, TL0PICIDX and TID come.
-const HAS_LAYERS: u8 = 0xe0;
+/// PictureID, TL0PICIDX and TID come.
+const HAS_LAYERS: u8 = BIT_I + BIT_L + BIT_T;
 
-/// Bit S of the first octet, where the frame begins here.
+/// Bit S of the first octet, if the frame begins here.
 fn start_bit(start: bool) -> u8
     ensures { result ≡ start_bit_of start }
 {
-    if start { 0x10 } else { 0 }
+    if start { BIT_S } else { 0 }
 }
 
 /// The octet of TID and Y.
 fn layer_octet(tid: u8, sync: bool) -> u8
     requires { tid < 4 }
-    ensures { result ≡ tid * 64 + (if sync then 32 else 0) }
+    ensures { result ≡ tid * 64 + (if sync then BIT_Y else 0) }
 {
-    tid * 64 + if sync { 0x20 } else { 0 }
+    tid * 64 + if sync { BIT_Y } else { 0 }
 }
 
 /// The payload of a part.
@@ -41,9 +42,9 @@ fn octets_of(
     match layers {
         None => payload.push(start_bit(start))?,
         Some(layers) => payload.extend_from_slice(&[
-            0x80 + start_bit(start),
+            BIT_X + start_bit(start),
             HAS_LAYERS,
-            0x80 + (layers.picture / 256) as u8,
+            BIT_M + (layers.picture / 256) as u8,
             (layers.picture % 256) as u8,
             layers.tl0,
             layer_octet(layers.tid, layers.sync),
@@ -55,10 +56,10 @@ fn octets_of(
 
 /// The payload of a part of a frame: its descriptor (RFC 7741 4.2), and `body`, of which there is at least one octet.
 /// The picture of the layers has 15 bits, and the TID is 0 to 3. Bits that say nothing are 0, N and KEYIDX too.
-/// Where it finds no memory, the answer is `NoMemory`.
+/// If it finds no memory, the answer is `NoMemory`.
 ///
-/// The part is the frame's first where `start` is true, and then says a keyframe where the body's first octet is even
-/// (RFC 7741 4.3).
+/// The part is the frame's first if `start` is true, and then says a keyframe if the body's first octet is even (RFC
+/// 7741 4.3).
 pub fn write_part(
     alloc: Global,
     start: bool,

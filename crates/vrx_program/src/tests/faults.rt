@@ -1,10 +1,9 @@
 //! Reads and writes that fail, and reads and writes of one octet.
 
-use crate::tests::{HEAD, Pipes, outcome_in, sink_of, source_of, words_of};
-use crate::{Status, run};
+use crate::Status;
+use crate::tests::{HEAD, Pipes, SURE, outcome};
 use std::alloc::Global;
 use std::test::Fail;
-use vrx_io::MemSource;
 
 /// The lines of a capture, with what `replay` and `inspect` write of each. The last line has no line feed. Of its 174
 /// octets a reader takes five at a time in 34 reads, and the last four in one more.
@@ -32,115 +31,105 @@ const LINES: [(&str, &str, &str); 9] = [
     ("p 2", "9 notready\n", ""),
 ];
 
-/// The capture, of which a read gives five octets; this read fails.
-fn source(alloc: Global, fails: u64) -> Result<MemSource, Fail> {
-    let mut bytes = Vec::new(alloc);
-    for (line, _, _) in LINES {
-        bytes.extend_from_slice(line.as_bytes())?;
-    }
-    Ok(MemSource::new(bytes, [fails].to_vec(alloc)?, 5))
-}
-
-/// What a word writes of the whole lines of the capture of which all octets were read, and the line feed with them.
-fn told_of_whole(alloc: Global, word: &str, octets_read: usize) -> Result<Vec<u8>, Fail> {
+/// The capture, and what a word writes of the lines that lie in so many octets from its front, their line feeds with
+/// them; the last line has none, and is told once the end was found.
+fn told_of(alloc: Global, word: &str, read: usize, end: bool) -> Result<(Vec<u8>, Vec<u8>), Fail> {
+    let mut capture = Vec::new(alloc);
     let mut text = Vec::new(alloc);
-    let mut left = octets_read;
     for (line, replayed, inspected) in LINES {
-        // the last line has no line feed
-        if left < line.len() || line == "p 2" {
-            break;
+        capture.extend_from_slice(line.as_bytes())?;
+        if capture.len() > read || (line == "p 2" && !end) {
+            continue;
         }
-        left -= line.len();
         if word == "replay" {
             text.extend_from_slice(replayed.as_bytes())?;
         } else {
             text.extend_from_slice(inspected.as_bytes())?;
         }
     }
-    Ok(text)
+    Ok((capture, text))
 }
 
-/// What a word writes of the capture.
-fn told_of_all(alloc: Global, word: &str) -> Result<Vec<u8>, Fail> {
-    let mut text = Vec::new(alloc);
-    for (_, replayed, inspected) in LINES {
-        if word == "replay" {
-            text.extend_from_slice(replayed.as_bytes())?;
-        } else {
-            text.extend_from_slice(inspected.as_bytes())?;
-        }
-    }
-    Ok(text)
-}
-
-// Behind read 35, which gives the last octets, read 36 finds the end. It fails behind a last line that is in hand,
-// but whose end isn't known. There is no read 37.
+// Read 35 gives the last octets, and read 36 finds the end. It may fail, too: the last line is in hand then, but its
+// end isn't known. There is no read 37.
 #[test]
 fn a_failed_read_leaves_the_text_of_the_whole_lines(rt: HostRuntime) -> Result<(), Fail> {
     for word in ["replay", "inspect"] {
-        let words = words_of(rt.alloc(), &[word])?;
-        for before in 0..36_u8 {
-            let mut source = source(rt.alloc(), u64::from(before) + 1)?;
-            let mut sink = sink_of(rt.alloc(), 1_000, 1_000, &[])?;
-            let status = run(rt.alloc(), words.as_slice(), &mut source, &mut sink);
-            assert_eq!(rt; status, Status::ReadFault, "{before}");
-            let told = told_of_whole(rt.alloc(), word, 5 * usize::from(before))?;
-            assert_eq!(rt; sink.written(), told.as_slice(), "{before}");
+        for before in 0..37_u8 {
+            let end = before == 36;
+            let (capture, told) = told_of(rt.alloc(), word, 5 * usize::from(before), end)?;
+            let pipes = Pipes {
+                most: 5,
+                bad_read: u64::from(before) + 1,
+                ..SURE
+            };
+            let (status, text) = outcome(rt.alloc(), word, capture.as_slice(), pipes)?;
+            let wanted = if end { Status::Done } else { Status::ReadFault };
+            assert_eq!(rt; status, wanted, "{before}");
+            assert_eq!(rt; text.as_slice(), told.as_slice(), "{before}");
         }
     }
     Ok(())
 }
 
+// A settings line that isn't whole may be right up to there or not.
 #[test]
-fn no_read_comes_behind_the_end(rt: HostRuntime) -> Result<(), Fail> {
-    for word in ["replay", "inspect"] {
-        let words = words_of(rt.alloc(), &[word])?;
-        let mut source = source(rt.alloc(), 37)?;
-        let mut sink = sink_of(rt.alloc(), 1_000, 1_000, &[])?;
-        let status = run(rt.alloc(), words.as_slice(), &mut source, &mut sink);
-        assert_eq!(rt; status, Status::Done);
-        let told = told_of_all(rt.alloc(), word)?;
-        assert_eq!(rt; sink.written(), told.as_slice());
-    }
-    Ok(())
-}
-
-#[test]
-fn a_failed_read_of_the_settings_line_writes_nothing(rt: HostRuntime) -> Result<(), Fail> {
-    for word in ["replay", "inspect"] {
-        let words = words_of(rt.alloc(), &[word])?;
-        // a right line without its end, one that would be refused, and nothing
-        for (text, fails) in [("", 1), ("vrx 1 codec=vp9", 2), (HEAD.trim_end(), 2)] {
-            let mut source = source_of(rt.alloc(), "", text, 1_000, &[fails])?;
-            let mut sink = sink_of(rt.alloc(), 100, 100, &[])?;
-            let status = run(rt.alloc(), words.as_slice(), &mut source, &mut sink);
-            assert_eq!(rt; status, Status::ReadFault, "{text}");
-            assert_eq!(rt; sink.written().len(), 0);
-        }
-    }
-    Ok(())
-}
-
-#[test]
-fn a_bad_line_is_told_before_the_next_read(rt: HostRuntime) -> Result<(), Fail> {
-    for (word, lines, text) in [
-        ("replay", "t 1\np 0\n", "error line 2 later\n"),
-        ("replay", "p 0\nx\np 0\n", "2 notready\nerror line 3 kind\n"),
-        ("inspect", "t 1\nx\np 0\n", "error line 3 kind\n"),
+fn the_first_fault_ends_the_run(rt: HostRuntime) -> Result<(), Fail> {
+    for (word, lines, bad_read, bad_write, wanted, told) in [
+        ("replay", CALL, 1, 0, Status::ReadFault, ""),
+        // the text of an event is one piece
+        ("replay", CALL, 0, 2, Status::WriteFault, "2 media 65537\n"),
+        // a bad line in hand is told before the next read
+        (
+            "replay",
+            "t 1\np 0\n",
+            2,
+            0,
+            Status::BadCapture,
+            "error line 2 later\n",
+        ),
+        (
+            "replay",
+            "p 0\nx\np 0\n",
+            2,
+            0,
+            Status::BadCapture,
+            "2 notready\nerror line 3 kind\n",
+        ),
+        (
+            "inspect",
+            "t 1\nx\np 0\n",
+            2,
+            0,
+            Status::BadCapture,
+            "error line 3 kind\n",
+        ),
     ] {
-        let mut source = source_of(rt.alloc(), HEAD, lines, 1_000, &[2])?;
-        let mut sink = sink_of(rt.alloc(), 100, 100, &[])?;
-        let words = words_of(rt.alloc(), &[word])?;
-        assert_eq!(rt;
-            run(rt.alloc(), words.as_slice(), &mut source, &mut sink),
-            Status::BadCapture
-        );
-        assert_eq!(rt; sink.written(), text.as_bytes());
+        let pipes = Pipes {
+            bad_read,
+            bad_write,
+            ..SURE
+        };
+        let capture = format!(in rt.alloc(); "{HEAD}{lines}")?;
+        let (status, text) = outcome(rt.alloc(), word, capture.as_bytes(), pipes)?;
+        assert_eq!(rt; status, wanted, "{lines}");
+        assert_eq!(rt; text.as_slice(), told.as_bytes(), "{lines}");
+    }
+    for (capture, bad_read) in [("", 1), ("vrx 1 codec=vp9", 2), (HEAD.trim_end(), 2)] {
+        for word in ["replay", "inspect"] {
+            let pipes = Pipes { bad_read, ..SURE };
+            let (status, text) = outcome(rt.alloc(), word, capture.as_bytes(), pipes)?;
+            assert_eq!(rt; status, Status::ReadFault, "{capture}");
+            assert_eq!(rt; text.len(), 0, "{capture}");
+        }
     }
     Ok(())
 }
 
-/// Captures with all that a word writes of them, an error line or an event last.
+/// A keyframe and its pull.
+const CALL: &str = "d 0 80e00001000000000000000a1000aa\np 1\n";
+
+/// The word, the lines after the settings, the status, and the text, an event or an error line last.
 const WRITES: [(&str, &str, Status, &str); 4] = [
     (
         "replay",
@@ -168,57 +157,46 @@ const WRITES: [(&str, &str, Status, &str); 4] = [
     ),
 ];
 
-// A write takes one octet, so write n + 1 fails where the sink took n.
+// Of a text of n octets each part from the front is taken once: by a sink whose room is used up there, and by one that
+// takes one octet a write, of which the next fails. With enough room, and without a fault, all of it is.
 #[test]
 fn a_failed_write_leaves_what_the_sink_took(rt: HostRuntime) -> Result<(), Fail> {
-    for (word, lines, _, text) in WRITES {
-        let words = words_of(rt.alloc(), &[word])?;
-        for (n, _) in text.as_bytes().iter().enumerate() {
-            let mut source = source_of(rt.alloc(), HEAD, lines, 100, &[])?;
-            let mut sink = sink_of(rt.alloc(), 100, 1, &[(n as u64).saturating_add(1)])?;
-            let status = run(rt.alloc(), words.as_slice(), &mut source, &mut sink);
-            assert_eq!(rt; status, Status::WriteFault, "{text} {n}");
-            assert_eq!(rt; sink.written().len(), n, "{text} {n}");
-            assert!(rt; text.as_bytes().starts_with(sink.written()), "{text} {n}");
-        }
-    }
-    Ok(())
-}
-
-// A sink whose room is used up.
-#[test]
-fn a_full_sink_took_the_front(rt: HostRuntime) -> Result<(), Fail> {
-    for (word, lines, _, text) in WRITES {
-        for (room, _) in text.as_bytes().iter().enumerate() {
-            let pipes = Pipes {
-                most: 100,
-                room,
-                piece: 100,
-            };
-            let (status, taken) = outcome_in(rt.alloc(), word, HEAD, lines, pipes)?;
-            assert_eq!(rt; status, Status::WriteFault, "{text} {room}");
-            assert_eq!(rt; taken.len(), room, "{text} {room}");
-            assert!(rt;
-                text.as_bytes().starts_with(taken.as_slice()),
-                "{text} {room}"
-            );
-        }
-    }
-    Ok(())
-}
-
-#[test]
-fn one_octet_at_a_time_changes_nothing(rt: HostRuntime) -> Result<(), Fail> {
-    for (word, lines, ends, text) in WRITES {
-        for (most, piece) in [(1, 1), (1, 100), (100, 1), (100, 100)] {
+    for (word, lines, ends, told) in WRITES {
+        let capture = format!(in rt.alloc(); "{HEAD}{lines}")?;
+        let whole = told.as_bytes().len();
+        for (most, piece, room) in [
+            (1, 1, whole),
+            (1, 100, whole),
+            (100, 1, whole),
+            (100, 100, 100),
+        ] {
             let pipes = Pipes {
                 most,
-                room: 100,
+                room,
                 piece,
+                ..SURE
             };
-            let (status, taken) = outcome_in(rt.alloc(), word, HEAD, lines, pipes)?;
-            assert_eq!(rt; status, ends, "{text}");
-            assert_eq!(rt; taken.as_slice(), text.as_bytes(), "{text}");
+            let (status, text) = outcome(rt.alloc(), word, capture.as_bytes(), pipes)?;
+            assert_eq!(rt; status, ends, "{told}");
+            assert_eq!(rt; text.as_slice(), told.as_bytes(), "{told}");
+        }
+        for (room, _) in told.as_bytes().iter().enumerate() {
+            let next = (room as u64).saturating_add(1);
+            for (room_left, piece, bad_write) in [(room, 100, 0), (100, 1, next)] {
+                let pipes = Pipes {
+                    room: room_left,
+                    piece,
+                    bad_write,
+                    ..SURE
+                };
+                let (status, text) = outcome(rt.alloc(), word, capture.as_bytes(), pipes)?;
+                assert_eq!(rt; status, Status::WriteFault, "{told} {room}");
+                assert_eq!(rt; text.len(), room, "{told} {room}");
+                assert!(rt;
+                    told.as_bytes().starts_with(text.as_slice()),
+                    "{told} {room}"
+                );
+            }
         }
     }
     Ok(())

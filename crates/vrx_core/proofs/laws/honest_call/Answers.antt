@@ -1,6 +1,6 @@
 -- The law is the theorem.
-use Rattle.vrx_core.proofs.HonestLemmas.{honest_call}
+use Rattle.vrx_core.proofs.honest.HonestLemmas.{honest_call}
 use Rattle.vrx_core.proofs.laws.honest_call.Goals as goal
 
 pub returns : goal.returns
-returns c = honest_call c.one_reading.ensures.read_packet
+returns c = record { honest = honest_call c.extended_is_near.ensures.some c.one_reading.ensures.read_packet c.runs_are.ensures }

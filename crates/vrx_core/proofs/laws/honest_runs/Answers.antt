@@ -1,6 +1,6 @@
 -- The law is the theorem.
-use Rattle.vrx_core.proofs.HonestRunsLemmas.{honest_runs}
+use Rattle.vrx_core.proofs.honest.HonestRunsLemmas.{honest_runs}
 use Rattle.vrx_core.proofs.laws.honest_runs.Goals as goal
 
 pub returns : goal.returns
-returns c = honest_runs c.one_reading.ensures.read_packet
+returns c = record { runs = honest_runs c.extended_is_near.ensures.some c.one_reading.ensures.read_packet c.runs_are.ensures }

@@ -1,6 +1,6 @@
 -- The law is the theorem.
-use Rattle.vrx_core.proofs.HonestTakenLemmas.{honest_taken}
+use Rattle.vrx_core.proofs.honest.HonestTakenLemmas.{honest_taken}
 use Rattle.vrx_core.proofs.laws.honest_taken.Goals as goal
 
 pub returns : goal.returns
-returns c = honest_taken c.one_reading.ensures.read_packet
+returns c = record { taken = honest_taken c.extended_is_near.ensures.some c.one_reading.ensures.read_packet }

@@ -1,6 +1,6 @@
 -- The law is the theorem.
-use Rattle.vrx_core.proofs.AvailableLemmas.{available_are}
+use Rattle.vrx_core.proofs.machine.AvailableLemmas.{available_are}
 use Rattle.vrx_core.proofs.meanings.available_are.Goals as goal
 
 pub returns : goal.returns
-returns c = available_are
+returns c = record { available = available_are }

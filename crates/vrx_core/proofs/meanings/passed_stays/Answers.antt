@@ -1,6 +1,6 @@
 -- The law is the theorem.
-use Rattle.vrx_core.proofs.PassedLemmas.{passed_stays}
+use Rattle.vrx_core.proofs.machine.PassedLemmas.{passed_stays}
 use Rattle.vrx_core.proofs.meanings.passed_stays.Goals as goal
 
 pub returns : goal.returns
-returns c = passed_stays
+returns c = record { stays = passed_stays }

@@ -3,7 +3,7 @@ use Rattle.vrx_h264.specs.Aggregate.{units_of}
 use Rattle.vrx_h264.specs.Payload.{Whole, hold_idr}
 use Rattle.vrx_h264.proofs.aggregate.holds_idr.Given as goal
 
--- the units so far were none
+-- the units seen were none
 abbrev pub invariant-loop-unit : goal.invariant-loop-unit
 invariant-loop-unit l = hold_idr (map Whole (units_of l.rest).units) ≡ hold_idr (map Whole (units_of l.octets).units)
 

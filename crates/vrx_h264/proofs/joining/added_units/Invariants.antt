@@ -5,7 +5,7 @@ use Rattle.vrx_h264.specs.Payload.{Whole}
 use Rattle.vrx_h264.specs.Joining.{added_by}
 use Rattle.vrx_h264.proofs.joining.added_units.Given as goal
 
--- the total so far and what is to come are all
+-- the total and what is to come are all
 abbrev pub invariant-loop-unit : goal.invariant-loop-unit
 invariant-loop-unit l = record {
   same : l.total + length (flat_map added_by (map Whole (units_of l.rest).units)) ≡ length (flat_map added_by (map Whole (units_of l.octets).units));

@@ -1,8 +1,20 @@
 -- The packets before a place and what is read there; and no other answer fits.
 use Rattle.std.proofs.Common.{length, Ok, Err, refl, sym, ap, ◌∙◌, arith}
+use Rattle.std.proofs.lemmas.Bool.{true≢false}
 use Rattle.vrx_rtcp.specs.View.{view}
 use Rattle.vrx_rtcp.proofs.CompoundLemmas.{one_compound, one_fault, not_both, begins_further, begins_whole, told_fault}
+use Rattle.vrx_rtcp.proofs.TestLemmas.{compound-passes, fault-fails}
 use Rattle.vrx_rtcp.proofs.compound.read_compound.Goals as goal
+
+pub returns-in-Err-clause-ok : goal.returns-in-Err-clause-ok
+returns-in-Err-clause-ok c =
+    let has = told_fault c.args.bytes.now c.loop-at.at c.loop-at.packets _ c.in-Err.fault c.loop-at.invariant.begins c.loop-at-test.true refl c.in-Err.ensures.fault in
+    (λ no. absurd (true≢false (sym no)), λ passed. absurd (true≢false (sym passed ∙ fault-fails c.args.bytes.now c.in-Err.fault has)))
+
+pub returns-clause-ok : goal.returns-clause-ok
+returns-clause-ok c =
+    let whole = begins_whole c.args.bytes.now c.loop-at.at c.loop-at.packets c.loop-at.invariant.begins c.loop-at-test.false in
+    (λ _. compound-passes c.args.bytes.now whole.0 whole.1, λ _. refl)
 
 pub returns-in-Err-clause-fault : goal.returns-in-Err-clause-fault
 returns-in-Err-clause-fault c =

@@ -1,40 +1,31 @@
-use Rattle.std.proofs.Common.{◌<◌, max, arith, ap, sym, ◌∙◌}
-use Rattle.vrx_rtp.specs.View.{view}
-use Rattle.vrx_core.specs.Window.{newest_with}
-use Rattle.vrx_core.specs.Held.{entries}
-use Rattle.vrx_core.specs.StandsFor.{Parts}
-use Rattle.vrx_core.specs.Step.{edge_after, with_text}
-use Rattle.vrx_core.specs.Text.{packet_text}
-use Rattle.vrx_core.specs.Verdict.{verdict}
-use Rattle.vrx_core.proofs.HandledLemmas.{handled-left, handled-taken}
-use Rattle.vrx_core.proofs.SoundLemmas.{sound-refused, sound-held}
+use Rattle.std.proofs.Common.{◌≡◌, Ok, subst, ap, ◌∙◌}
+use Rattle.std.specs.Result.{result_map_both}
+use Rattle.vrx_window.specs.Content.{contents_of}
+use Rattle.vrx_core.specs.machine.Verdict.{verdict}
+use Rattle.vrx_core.specs.relation.StandsFor.{Parts}
+use Rattle.vrx_core.specs.inside.Fields.{IsNear, MayBeTaken}
+use Rattle.vrx_core.specs.inside.Seen.{view_taken}
+use Rattle.vrx_core.proofs.step.TakeLemmas.{handled-taken}
 use Rattle.vrx_core.proofs.engine.Engine.handle.Goals as goal
-use Rattle.vrx_core.proofs.engine.Engine.handle.Goals.{in-Err, in-Ok+in_ok-text-in-Ok+in_ok-place-in-Ok}
 
-pub invariant_of-self-2 : goal.invariant_of-self-2
-invariant_of-self-2 g c =
-    let i = c.self.inside in
-    let few : c.self.inside.events < 1048576 = omega (arith, ap (λ (p : Parts). p.events) c.self.view_is) in
-    elim c.match-verdict.branch [
-      | in-Err w ↦ rw w.self-inside-is (sound-refused i.settings g.C.Codec.meaning i.events i.clock c.max-self-inside.result i.extender i.last_pulled i.edge (entries i.held.items) c.self.invariant few)
-      | in-Ok+in_ok-text-in-Ok+in_ok-place-in-Ok w ↦ rw w.self-inside-is (sound-held i.settings g.C.Codec.meaning i.events i.clock c.max-self-inside.result i.extender i.last_pulled i.edge (entries i.held.items)
-          w.in-Ok.taken.number w.newest_with-newest.result w.in_ok-text-in-Ok.text w.accept.new.self w.edge_after-edge.result (entries w.place.new.held.items) c.self.invariant few (w.in_ok-text-in-Ok.ensures.taken i.settings g.C.Codec.meaning w.in-Ok.ensures.form) w.in-Ok.ensures.inside w.in-Ok.ensures.reach
-          w.accept.ensures (w.newest_with-newest.ensures ∙ ap (λ o. newest_with o w.in-Ok.taken.number) w.newest-before.ensures.value) w.in_ok-place-in-Ok.ensures.ok)
-    ]
+pub take-requires-clause-may : goal.take-requires-clause-may
+take-requires-clause-may g c =
+    subst (λ (p : Parts). MayBeTaken g.C.Codec.meaning p.window c.in-Ok.taken.number c.in_ok-held-in-Ok.held) c.self.view_is (record {
+      fresh = c.in-Ok.ensures.fresh;
+      near = subst (λ o. IsNear o c.in-Ok.taken.number) c.self.invariant.newest c.in-Ok.ensures.reach;
+      sound = c.in_ok-held-in-Ok.ensures.sound;
+      plain = c.in_ok-held-in-Ok.ensures.plain;
+    })
 
-pub returns-clause-value : goal.returns-clause-value
-returns-clause-value g c =
-    let i = c.self.inside in
-    let given = ap (λ held. verdict i.settings g.C.Codec.meaning i.extender (entries held) c.args.octets.now) (sym c.deref.ensures.value) ∙ c.verdict.ensures.value in
-    elim c.match-verdict.branch [
-      | in-Err w ↦
-          let moved = c.max-self-inside.ensures ∙ ap (λ s. max s.clock c.args.moment) w.self-inside-is in
-          rw w.self-inside-is (handled-left i.settings g.C.Codec.meaning i.events i.clock c.max-self-inside.result c.args.moment i.extender i.last_pulled i.edge (entries i.held.items) c.args.octets.now c.match-verdict.what moved
-          c.args.self.now w.in-Err.left c.self.view_is (given ∙ ap with_text w.in-Err.is) (w.what-is ∙ w.answer_of-what.ensures))
-      | in-Ok+in_ok-text-in-Ok+in_ok-place-in-Ok w ↦
-          let moved = c.max-self-inside.ensures ∙ ap (λ s. max s.clock c.args.moment) w.self-inside-is in
-          rw w.self-inside-is (handled-taken i.settings g.C.Codec.meaning i.events i.clock c.max-self-inside.result c.args.moment i.extender i.last_pulled i.edge (entries i.held.items) c.args.octets.now c.match-verdict.what moved
-          c.args.self.now w.in-Ok.taken.number w.newest_with-newest.result (packet_text (view w.in-Ok.taken.packet)) w.in_ok-text-in-Ok.text w.accept.new.self w.edge_after-edge.result (entries w.place.new.held.items)
-          c.self.view_is (given ∙ ap with_text w.in-Ok.is) w.what-is w.accept.ensures (w.newest_with-newest.ensures ∙ ap (λ o. newest_with o w.in-Ok.taken.number) w.newest-before.ensures.value) w.in_ok-text-in-Ok.ensures.text w.in_ok-place-in-Ok.ensures.ok
-          (w.edge_after-edge.ensures ∙ ap (λ held. edge_after i.edge w.newest-before.result w.newest_with-newest.result (entries held)) w.deref-in-Ok.ensures.value ∙ ap (λ o. edge_after i.edge o w.newest_with-newest.result (entries i.held.items)) w.newest-before.ensures.value))
-    ]
+pub returns-in_ok-held-in-Ok-clause-handled : goal.returns-in_ok-held-in-Ok-clause-handled
+returns-in_ok-held-in-Ok-clause-handled g c =
+    let taken = view_taken c.in-Ok.taken in
+    let may = subst (λ (p : Parts). MayBeTaken g.C.Codec.meaning p.window c.in-Ok.taken.number c.in_ok-held-in-Ok.held) c.self.view_is (record {
+      fresh = c.in-Ok.ensures.fresh;
+      near = subst (λ o. IsNear o c.in-Ok.taken.number) c.self.invariant.newest c.in-Ok.ensures.reach;
+      sound = c.in_ok-held-in-Ok.ensures.sound;
+      plain = c.in_ok-held-in-Ok.ensures.plain;
+    }) in
+    handled-taken g.C.Codec.meaning c.args.self.now c.take.new.self c.args.moment c.args.octets.now c.answer_taken.result c.in-Ok.taken.number taken.1 c.in_ok-held-in-Ok.held
+    (subst (λ (p : Parts). verdict p.settings g.C.Codec.meaning (contents_of p.window) c.args.octets.now ≡ Ok (c.in-Ok.taken.number, taken.1)) c.self.view_is (c.verdict.ensures.value ∙ ap (result_map_both view_taken (λ left. left)) c.in-Ok.is))
+    c.in_ok-held-in-Ok.ensures.content may c.take.ensures.taken c.take.ensures.counts c.answer_taken.ensures

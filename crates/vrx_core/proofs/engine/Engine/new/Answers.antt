@@ -1,6 +1,6 @@
 use Rattle.std.proofs.Common.{sym, ◌∙◌}
 use Rattle.vrx_core.specs.declared.settings.NewFault.TheVariants.{BadType, SameType, SameSsrc, RedMissing, BadInterval, Later}
-use Rattle.vrx_core.proofs.SettingsLemmas.{fault-bad_type, fault-same_type, fault-same_ssrc, fault-red_missing, fault-bad_interval, fault-later, told-fault, told-none, never-fault}
+use Rattle.vrx_core.proofs.machine.SettingsLemmas.{fault-bad_type, fault-same_type, fault-same_ssrc, fault-red_missing, fault-bad_interval, fault-later, told-fault, told-none, never-fault}
 use Rattle.vrx_core.proofs.engine.Engine.new.Goals as goal
 
 pub returns-in-Some-clause-bad_type : goal.returns-in-Some-clause-bad_type

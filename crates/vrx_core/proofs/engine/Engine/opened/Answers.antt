@@ -1,7 +1,8 @@
-use Rattle.std.proofs.Common.{ap}
-use Rattle.vrx_core.specs.Held.{entries}
-use Rattle.vrx_core.proofs.StandsLemmas.{stands-new}
+use Rattle.vrx_core.proofs.step.FieldLemmas.{fields-new, stands-new}
 use Rattle.vrx_core.proofs.engine.Engine.opened.Goals as goal
 
+pub invariant_of-result : goal.invariant_of-result
+invariant_of-result g c = fields-new g.C.Codec.meaning c.args.settings c.in-Ok.window c.in-Ok-new.runs c.in-Ok-new-2.frames c.new-4.result c.in-Ok.ensures.nothing c.in-Ok-new.ensures.nothing c.in-Ok-new-2.ensures.nothing c.new-4.ensures
+
 pub returns-clause-stands : goal.returns-clause-stands
-returns-clause-stands g c = stands-new g.C.Codec.meaning c.args.settings c.new.result (entries c.in-Ok.held.items) c.new.ensures (ap entries c.in-Ok.ensures.items)
+returns-clause-stands g c = stands-new g.C.Codec.meaning c.args.settings c.in-Ok.window c.in-Ok-new.runs c.in-Ok-new-2.frames c.in-Ok.ensures.nothing c.in-Ok-new.ensures.nothing c.in-Ok-new-2.ensures.nothing

@@ -1,0 +1,5 @@
+pub mod OrderLemmas
+pub mod HeapLemmas
+pub mod KeptLemmas
+pub mod RunLemmas
+pub mod StandingRows

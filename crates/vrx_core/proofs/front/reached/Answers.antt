@@ -1,0 +1,14 @@
+use Rattle.std.proofs.Common.{sym, ◌∙◌}
+use Rattle.vrx_num.specs.declared.limits.TheConstants.{WINDOW}
+use Rattle.vrx_window.specs.Content.{contents}
+use Rattle.vrx_core.proofs.step.FrontLemmas.{reached-on, reached-end, reached-all}
+use Rattle.vrx_core.proofs.front.reached.Goals as goal
+
+pub returns-then-not-goes_on : goal.returns-then-not-goes_on
+returns-then-not-goes_on c = reached-end WINDOW c.loop.counter c.args.from c.loop.n (contents c.args.window.now.packets) c.loop-test.true c.loop.invariant (sym c.goes_on.ensures.value ∙ c.if-not-goes_on.true)
+
+pub loop-preserved : goal.loop-preserved
+loop-preserved c = reached-on WINDOW c.loop.counter c.args.from c.loop.n (contents c.args.window.now.packets) c.loop-test.true c.loop.invariant (sym c.goes_on.ensures.value ∙ c.if-not-goes_on.false)
+
+pub returns : goal.returns
+returns c = reached-all WINDOW c.loop.counter c.args.from c.loop.n (contents c.args.window.now.packets) c.loop-test.false c.loop.invariant

@@ -1,0 +1,275 @@
+-- An honest sender whose payloads never say where a frame begins, and who sends an empty packet between two frames,
+-- worked by hand: the premises of the laws can be met if the packet before decides.
+use Rattle.std.proofs.Common.{◌≢◌, ◌≤◌, ◌<◌, ◌≡◌, ◌∙◌, ◌⊎◌, ap, inl, inr, Contains, All, ℕ, zero, suc, ◌+◌, true, false, List, [], ◌∷◌, length, Some, None, IfSome, Ok, slice_get, refl, arith}
+use Rattle.std.specs.Prelude.{nat_lt, ◌==◌}
+use Rattle.std.specs.List.{AllByRecursion, list_all, list_any, flat_map}
+use Rattle.std.proofs.lemmas.Bool.{and_parts, ltb-true}
+use Rattle.std.proofs.lemmas.List.Elements.{All-nil, All-from_recursion}
+use Rattle.vrx_rtp.specs.Packet.{AreOctets}
+use Rattle.vrx_codec.specs.Meaning.{Meaning}
+use Rattle.vrx_codec.specs.declared.part.Start.TheVariants.{ByNeighbour}
+use Rattle.vrx_core.specs.machine.SettingsFault.{fault_of}
+use Rattle.vrx_core.specs.machine.Machine.{Reply, ToDatagram, ToPull, replies, reply, snapshots}
+use Rattle.vrx_core.specs.honest.Sender.{SentFrame, Media, Empty, Sender}
+use Rattle.vrx_core.specs.honest.WireForm.{IsEmptyPacket}
+use Rattle.vrx_core.specs.honest.Chain.{InChain}
+use Rattle.vrx_core.specs.honest.HonestSender.{Carried, IsPart, Travels, HonestSender}
+use Rattle.vrx_core.specs.honest.HonestNetwork.{Origin, FromSender, Elsewhere, HonestNetwork, taken}
+use Rattle.vrx_core.specs.declared.settings.Settings.{Settings}
+use Rattle.vrx_core.specs.declared.event.Event.{Event}
+use Rattle.vrx_core.specs.declared.event.Event.TheVariants.{Datagram, Pull}
+use Rattle.vrx_core.specs.declared.reply.What.{What}
+use Rattle.vrx_core.specs.declared.reply.What.TheVariants as what
+use Rattle.vrx_core.specs.declared.reply.Pulled.TheVariants.{Frame}
+use Rattle.vrx_core.proofs.machine.MemberLemmas.{Contains-either, Contains-empty}
+
+-- a codec whose payloads leave open where a frame begins: a payload is the part's body, one with an octet 5 says a
+-- keyframe, and parts join to their bodies
+abbrev codec : Meaning
+codec = record {
+  read = λ payload. Ok (record { start = ByNeighbour; key = list_any (λ octet. octet == 5) payload; layers = None; body = payload });
+  join = λ parts. Ok (flat_map (λ part. part.body) parts);
+}
+
+abbrev settings : Settings
+settings = record { media_ssrc = 10; media_type = 96; red = None; rtx = None; from_ssrc = 11; interval = 100 }
+
+-- they have no fault
+pub no_fault : fault_of settings ≡ None
+no_fault = refl
+
+-- a keyframe of one packet, a keyframe of two packets, an empty packet with one octet of padding, and a frame of one
+-- packet that refers to the frame before it
+abbrev first_text : List ℕ
+first_text = 128 ∷ 224 ∷ 0 ∷ 1 ∷ 0 ∷ 0 ∷ 0 ∷ 0 ∷ 0 ∷ 0 ∷ 0 ∷ 10 ∷ 5 ∷ 170 ∷ []
+
+abbrev second_text : List ℕ
+second_text = 128 ∷ 96 ∷ 0 ∷ 2 ∷ 0 ∷ 0 ∷ 0 ∷ 9 ∷ 0 ∷ 0 ∷ 0 ∷ 10 ∷ 5 ∷ 187 ∷ []
+
+abbrev third_text : List ℕ
+third_text = 128 ∷ 224 ∷ 0 ∷ 3 ∷ 0 ∷ 0 ∷ 0 ∷ 9 ∷ 0 ∷ 0 ∷ 0 ∷ 10 ∷ 204 ∷ []
+
+abbrev empty_octets : List ℕ
+empty_octets = 160 ∷ 96 ∷ 0 ∷ 4 ∷ 0 ∷ 0 ∷ 0 ∷ 9 ∷ 0 ∷ 0 ∷ 0 ∷ 10 ∷ 1 ∷ []
+
+abbrev fourth_text : List ℕ
+fourth_text = 128 ∷ 224 ∷ 0 ∷ 5 ∷ 0 ∷ 0 ∷ 0 ∷ 18 ∷ 0 ∷ 0 ∷ 0 ∷ 10 ∷ 221 ∷ []
+
+abbrev first_frame : SentFrame
+first_frame = record { bytes = 5 ∷ 170 ∷ []; key = true; ts = 0; references = [] }
+
+abbrev second_frame : SentFrame
+second_frame = record { bytes = 5 ∷ 187 ∷ 204 ∷ []; key = true; ts = 9; references = [] }
+
+abbrev third_frame : SentFrame
+third_frame = record { bytes = 221 ∷ []; key = false; ts = 18; references = 1 ∷ [] }
+
+abbrev sender : Sender
+sender = record {
+  first_wire = 1;
+  frames = first_frame ∷ second_frame ∷ third_frame ∷ [];
+  packets = Media 0 0 first_text ∷ Media 1 0 second_text ∷ Media 1 1 third_text ∷ Empty ∷ Media 2 0 fourth_text ∷ [];
+}
+
+-- what the packets carry
+abbrev first_part : Carried
+first_part = record {
+  text = first_text;
+  packet = record { marker = true; pt = 96; seq = 1; ts = 0; ssrc = 10; csrc = []; extension = None; payload = 5 ∷ 170 ∷ []; padding = 0 };
+  part = record { start = ByNeighbour; key = true; layers = None; body = 5 ∷ 170 ∷ [] };
+}
+
+abbrev second_part : Carried
+second_part = record {
+  text = second_text;
+  packet = record { marker = false; pt = 96; seq = 2; ts = 9; ssrc = 10; csrc = []; extension = None; payload = 5 ∷ 187 ∷ []; padding = 0 };
+  part = record { start = ByNeighbour; key = true; layers = None; body = 5 ∷ 187 ∷ [] };
+}
+
+abbrev third_part : Carried
+third_part = record {
+  text = third_text;
+  packet = record { marker = true; pt = 96; seq = 3; ts = 9; ssrc = 10; csrc = []; extension = None; payload = 204 ∷ []; padding = 0 };
+  part = record { start = ByNeighbour; key = false; layers = None; body = 204 ∷ [] };
+}
+
+abbrev fourth_part : Carried
+fourth_part = record {
+  text = fourth_text;
+  packet = record { marker = true; pt = 96; seq = 5; ts = 18; ssrc = 10; csrc = []; extension = None; payload = 221 ∷ []; padding = 0 };
+  part = record { start = ByNeighbour; key = false; layers = None; body = 221 ∷ [] };
+}
+
+-- octets, as a test
+are_octets : (octets : List ℕ) → list_all (λ octet. nat_lt octet 256) octets ≡ true → AreOctets octets
+are_octets octets h = All-from_recursion (λ octet. octet < 256) octets (each octets h) where
+  each : (os : List ℕ) → list_all (λ octet. nat_lt octet 256) os ≡ true → AllByRecursion (λ octet. octet < 256) os
+  each [] h = tt
+  each (o ∷ os) h = let both = and_parts (nat_lt o 256) (list_all (λ octet. nat_lt octet 256) os) h in (ltb-true o 256 both.0, each os both.1)
+
+-- each packet is a part of its frame
+first_is : IsPart settings codec sender 0 first_frame 1 0 0 first_part
+first_is = record {
+  sent = refl;
+  media = record { size = omega arith; below = are_octets first_text refl; reads = refl; no_padding = refl; number = refl; type = refl; source = refl; payload = λ e. cc; part_reads = refl; layers = refl };
+  timestamp = refl;
+  marker = (λ e. refl, λ e. refl);
+  start = tt;
+}
+
+second_is : IsPart settings codec sender 1 second_frame 2 0 1 second_part
+second_is = record {
+  sent = refl;
+  media = record { size = omega arith; below = are_octets second_text refl; reads = refl; no_padding = refl; number = refl; type = refl; source = refl; payload = λ e. cc; part_reads = refl; layers = refl };
+  timestamp = refl;
+  marker = (λ e. cc, λ e. absurd (omega arith));
+  start = tt;
+}
+
+third_is : IsPart settings codec sender 1 second_frame 2 1 2 third_part
+third_is = record {
+  sent = refl;
+  media = record { size = omega arith; below = are_octets third_text refl; reads = refl; no_padding = refl; number = refl; type = refl; source = refl; payload = λ e. cc; part_reads = refl; layers = refl };
+  timestamp = refl;
+  marker = (λ e. refl, λ e. refl);
+  start = tt;
+}
+
+fourth_is : IsPart settings codec sender 2 third_frame 1 0 4 fourth_part
+fourth_is = record {
+  sent = refl;
+  media = record { size = omega arith; below = are_octets fourth_text refl; reads = refl; no_padding = refl; number = refl; type = refl; source = refl; payload = λ e. cc; part_reads = refl; layers = refl };
+  timestamp = refl;
+  marker = (λ e. refl, λ e. refl);
+  start = tt;
+}
+
+-- each frame travels
+first_travels : Travels settings codec sender 0 first_frame 0 (first_part ∷ [])
+unfolding first_is
+first_travels = record { some = omega arith; each = (first_is, tt); joins = refl; key = (λ e. (first_part, (0, omega arith, refl), refl), λ e. refl) }
+
+second_travels : Travels settings codec sender 1 second_frame 1 (second_part ∷ third_part ∷ [])
+unfolding second_is third_is
+second_travels = record {
+  some = omega arith;
+  each = (second_is, (third_is, tt));
+  joins = refl;
+  key = (λ e. (second_part, (0, omega arith, refl), refl), λ e. refl);
+}
+
+-- no part of the last says a keyframe
+no_key : (c : Carried) → Contains (fourth_part ∷ []) c → c.part.key ≡ true → third_frame.key ≡ true
+no_key c there key = elim (Contains-either fourth_part [] c there) [
+  | inl same ↦ ap (λ (x : Carried). x.part.key) same ∙ key
+  | inr later ↦ absurd (Contains-empty c later)
+]
+
+third_travels : Travels settings codec sender 2 third_frame 4 (fourth_part ∷ [])
+unfolding fourth_is
+third_travels = record { some = omega arith; each = (fourth_is, tt); joins = refl; key = (λ e. absurd (cc), λ p. no_key p.0 p.1 p.2) }
+
+-- the places and the parts of the frames
+abbrev place : ℕ → ℕ
+place zero = 0
+place (suc zero) = 1
+place (suc (suc f)) = 4
+
+abbrev parts : ℕ → List Carried
+parts zero = first_part ∷ []
+parts (suc zero) = second_part ∷ third_part ∷ []
+parts (suc (suc f)) = fourth_part ∷ []
+
+-- the sender is honest
+pub sender-honest : HonestSender settings codec sender
+unfolding first_travels second_travels third_travels
+sender-honest = record {
+  begins = omega arith;
+  place = place;
+  parts = parts;
+  travels = travels;
+  in_order = order;
+  no_other = others;
+  from_key = refl;
+  references = chains;
+  apart = different;
+} where
+  travels : (f : ℕ) → IfSome (slice_get sender.frames f) (λ frame. Travels settings codec sender f frame (place f) (parts f))
+  travels zero = first_travels
+  travels (suc zero) = second_travels
+  travels (suc (suc zero)) = third_travels
+  travels (suc (suc (suc f))) = tt
+
+  order : (f g : ℕ) → f < g → g < length sender.frames → place f + length (parts f) ≤ place g
+  order f zero less within = absurd (omega arith)
+  order zero (suc zero) less within = omega arith
+  order zero (suc (suc g)) less within = omega arith
+  order (suc f) (suc zero) less within = absurd (omega arith)
+  order (suc zero) (suc (suc g)) less within = omega arith
+  order (suc (suc f)) (suc (suc g)) less within = absurd (omega arith)
+
+  others : (i : ℕ) → i < length sender.packets → (slice_get sender.packets i ≡ Some Empty) ⊎ ((f : ℕ) × (f < length sender.frames) × (place f ≤ i) × (i < place f + length (parts f)))
+  others zero within = inr (0, omega arith, omega arith, omega arith)
+  others (suc zero) within = inr (1, omega arith, omega arith, omega arith)
+  others (suc (suc zero)) within = inr (1, omega arith, omega arith, omega arith)
+  others (suc (suc (suc zero))) within = inl refl
+  others (suc (suc (suc (suc i)))) within = inr (2, omega arith, omega arith, omega arith)
+
+  chains : (f : ℕ) → IfSome (slice_get sender.frames f) (λ frame. All (λ g. InChain sender f g) frame.references)
+  chains zero = All-nil (λ g. InChain sender 0 g)
+  chains (suc zero) = All-nil (λ g. InChain sender 1 g)
+  chains (suc (suc zero)) = All-from_recursion (λ g. InChain sender 2 g) (1 ∷ []) (([], (refl, refl)), tt)
+  chains (suc (suc (suc f))) = tt
+
+  different : (f : ℕ) → IfSome (slice_get sender.frames f) (λ frame. IfSome (slice_get sender.frames (f + 1)) (λ after. frame.ts ≢ after.ts))
+  different zero = λ e. omega arith
+  different (suc zero) = λ e. omega arith
+  different (suc (suc zero)) = tt
+  different (suc (suc (suc f))) = tt
+
+-- the empty packet travels so
+empty_is : IsEmptyPacket settings 4 empty_octets
+empty_is = record {
+  size = omega arith;
+  below = are_octets empty_octets refl;
+  packet = record { marker = false; pt = 96; seq = 4; ts = 9; ssrc = 10; csrc = []; extension = None; payload = []; padding = 1 };
+  reads = refl;
+  number = refl;
+  type = refl;
+  source = refl;
+  payload = refl;
+}
+
+-- the packets of the first two frames, the empty packet, a pull, the last packet, and a pull
+abbrev events : List Event
+events = Datagram 0 first_text ∷ Datagram 1 second_text ∷ Datagram 2 third_text ∷ Datagram 3 empty_octets ∷ Pull 4 ∷ Datagram 5 fourth_text ∷ Pull 6 ∷ []
+
+abbrev origins : List Origin
+origins = FromSender 0 ∷ FromSender 1 ∷ FromSender 2 ∷ FromSender 3 ∷ Elsewhere ∷ FromSender 4 ∷ Elsewhere ∷ []
+
+-- the network is honest
+pub network-honest : HonestNetwork settings codec sender [] [] events origins
+unfolding snapshots taken empty_is
+network-honest = (
+  (inl refl, tt),
+  (
+    (inl refl, (omega arith, omega arith)),
+    (
+      (inl refl, (omega arith, omega arith)),
+      ((empty_is, (omega arith, omega arith)), (tt, ((inl refl, (omega arith, omega arith)), (tt, tt)))),
+    ),
+  ),
+)
+
+-- the reply to a datagram
+abbrev answered : What → Reply
+answered what = ToDatagram (record { what = what; repaired = []; feedback = record { nack = None; pli = None } })
+
+-- the first frame isn't given, since nothing tells that it begins with its packet; the second begins after the end of
+-- the first; and the third follows it over the empty packet
+pub frames_pulled : replies settings codec [] events
+    ≡ answered (what.Media 65537) ∷ answered (what.Media 65538) ∷ answered (what.Media 65539) ∷ answered (what.Empty 65540)
+    ∷ ToPull (Frame (record { first = 65538; last = 65539; ts = 9; key = true; bytes = 5 ∷ 187 ∷ 204 ∷ [] }))
+    ∷ answered (what.Media 65541) ∷ ToPull (Frame (record { first = 65541; last = 65541; ts = 18; key = false; bytes = 221 ∷ [] })) ∷ []
+unfolding replies reply snapshots
+frames_pulled = refl

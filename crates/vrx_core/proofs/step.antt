@@ -1,0 +1,6 @@
+pub mod FrontLemmas
+pub mod JoinLemmas
+pub mod EventLemmas
+pub mod RunLemmas
+pub mod FieldLemmas
+pub mod TakeLemmas

@@ -1,0 +1,93 @@
+-- The honest call: what a receiver answers if an honest network brings what an honest sender sent.
+use Rattle.std.specs.Prelude.{◌≡◌, ℕ, ◌≤◌, true, List, [], ◌∷◌, slice_get, All, Contains, IfSome, IsSomeAnd, Option, Some, None}
+use Rattle.std.specs.List.{filter_map}
+use Rattle.std.specs.List.Sorted.{IsStrictlyIncreasing}
+use Rattle.vrx_codec.specs.Meaning.{Meaning}
+use Rattle.vrx_core.specs.machine.SettingsFault.{fault_of}
+use Rattle.vrx_core.specs.machine.Machine.{Reply, ToDatagram, ToTick, ToPull, replies}
+use Rattle.vrx_core.specs.honest.Sender.{SentFrame, Sender}
+use Rattle.vrx_core.specs.honest.Chain.{InChain}
+use Rattle.vrx_core.specs.honest.HonestSender.{HonestSender}
+use Rattle.vrx_core.specs.honest.HonestNetwork.{Origin, HonestNetwork}
+use Rattle.vrx_core.specs.honest.Ready.{Ready}
+use Rattle.vrx_core.specs.declared.settings.Settings.{Settings}
+use Rattle.vrx_core.specs.declared.event.Event.{Event}
+use Rattle.vrx_core.specs.declared.event.Event.TheVariants.{Datagram, Tick, Pull}
+use Rattle.vrx_core.specs.declared.reply.Frame.{Frame}
+use Rattle.vrx_core.specs.declared.reply.Pulled.TheVariants as pulls
+
+-- what was pulled is what was sent, byte for byte
+pub record IsSentFrame (sent : SentFrame) (frame : Frame) : Type 0 where
+  pub ts : frame.ts ≡ sent.ts
+  pub key : frame.key ≡ sent.key
+  pub bytes : frame.bytes ≡ sent.bytes
+
+-- a frame pulled after a history is the sender's frame f, under its packets' numbers; f is ready, and the least that
+-- is
+pub record IsLeastReady (settings : Settings) (codec : Meaning) (sender : Sender) (h : List Event) (origins : List Origin) (frame : Frame) (f : ℕ) : Type 0 where
+  pub ready : Ready settings codec sender h origins f
+  pub least : (g : ℕ) → Ready settings codec sender h origins g → f ≤ g
+  pub first : frame.first ≡ ready.complete.first
+  pub last : frame.last ≡ ready.complete.last
+  pub sent : IsSentFrame ready.complete.frame frame
+
+-- a pull gives the least ready frame, of this place, and NotReady exactly if no frame is ready. What gives no
+-- frame has no place
+abbrev pub IsAnswer : Settings → Meaning → Sender → List Event → List Origin → Event → Reply → Option ℕ → Type 0
+IsAnswer settings codec sender h origins (Pull moment) (ToPull pulls.NotReady) None = (f : ℕ) → Ready settings codec sender h origins f → ⊥
+IsAnswer settings codec sender h origins (Pull moment) (ToPull (pulls.Frame frame)) (Some f) = IsLeastReady settings codec sender h origins frame f
+IsAnswer settings codec sender h origins (Datagram moment octets) (ToDatagram handled) None = Unit {0}
+IsAnswer settings codec sender h origins (Tick moment) (ToTick feedback) None = Unit {0}
+IsAnswer settings codec sender h origins _ _ _ = ⊥
+
+-- each of the events that follow a history is answered so, with the place of the frame that it gives, if it gives one
+abbrev pub Answers : Settings → Meaning → Sender → List Event → List Origin → List Event → List Origin → List Reply → List (Option ℕ) → Type 0
+Answers settings codec sender h origins [] [] [] [] = Unit {0}
+Answers settings codec sender h origins (e ∷ es) (o ∷ os) (r ∷ rs) (f ∷ fs) =
+    IsAnswer settings codec sender h origins e r f × Answers settings codec sender (e ∷ h) (o ∷ origins) es os rs fs
+Answers settings codec sender h origins _ _ _ _ = ⊥
+
+-- the places that there are, in order
+abbrev pub places_of : List (Option ℕ) → List ℕ
+places_of given = filter_map (λ place. place) given
+
+-- the frames among replies, in order
+abbrev pub frames_of : List Reply → List Frame
+frames_of [] = []
+frames_of (ToPull (pulls.Frame frame) ∷ rs) = frame ∷ frames_of rs
+frames_of (ToPull pulls.NotReady ∷ rs) = frames_of rs
+frames_of (ToDatagram handled ∷ rs) = frames_of rs
+frames_of (ToTick feedback ∷ rs) = frames_of rs
+
+-- these frames are the sender's frames of these places
+abbrev pub AreSent : Sender → List ℕ → List Frame → Type 0
+AreSent sender [] [] = Unit {0}
+AreSent sender (f ∷ fs) (frame ∷ frames) = IsSomeAnd (slice_get sender.frames f) (λ sent. IsSentFrame sent frame) × AreSent sender fs frames
+AreSent sender [] (frame ∷ frames) = ⊥
+AreSent sender (f ∷ fs) [] = ⊥
+
+-- the first of these frames is a keyframe
+abbrev pub BeginsWithKey : List Frame → Type 0
+BeginsWithKey [] = Unit {0}
+BeginsWithKey (frame ∷ frames) = frame.key ≡ true
+
+-- each of these frames comes after all frames of its chain and after all its references. Those that were given before
+-- stand in the first list
+abbrev pub AfterReferences : Sender → List ℕ → List ℕ → Type 0
+AfterReferences sender before [] = Unit {0}
+AfterReferences sender before (f ∷ fs) = ((g : ℕ) → InChain sender f g → Contains before g) × IfSome (slice_get sender.frames f) (λ frame. All (λ g. Contains before g) frame.references) × AfterReferences sender (f ∷ before) fs
+
+-- the frames pulled are the sender's, byte for byte, in order, each at most once, from a keyframe on, and after all
+-- their references. Each pull is answered by the least ready frame, or by NotReady exactly if none is ready
+pub record HonestCall (settings : Settings) (codec : Meaning) (sender : Sender) (events : List Event) (origins : List Origin) (replies : List Reply) : Type 0 where
+  -- the place of the frame that each event gives, if it gives one
+  pub given : List (Option ℕ)
+  pub answers : Answers settings codec sender [] [] events origins replies given
+  pub rising : IsStrictlyIncreasing (places_of given)
+  pub sent : AreSent sender (places_of given) (frames_of replies)
+  pub from_key : BeginsWithKey (frames_of replies)
+  pub after_references : AfterReferences sender [] (places_of given)
+
+-- every honest call is answered so, whatever settings without a fault and whatever the codec's meaning
+abbrev pub HonestCallHolds : Type 0
+HonestCallHolds = (settings : Settings) (codec : Meaning) (sender : Sender) (events : List Event) (origins : List Origin) → fault_of settings ≡ None → HonestSender settings codec sender → HonestNetwork settings codec sender [] [] events origins → HonestCall settings codec sender events origins (replies settings codec [] events)

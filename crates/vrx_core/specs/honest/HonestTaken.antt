@@ -1,0 +1,66 @@
+-- What a receiver takes and keeps in an honest call, said in the sender's terms only.
+use Rattle.std.specs.Prelude.{◌≡◌, ℕ, ◌+◌, ◌<◌, ◌↔◌, true, List, [], ◌∷◌, slice_get, Contains, Some, None, IsSomeAnd}
+use Rattle.vrx_codec.specs.Meaning.{Meaning}
+use Rattle.vrx_num.specs.declared.limits.TheConstants.{WINDOW, HALF_SPACE}
+use Rattle.vrx_window.specs.Window.{at, is_available}
+use Rattle.vrx_core.specs.machine.SettingsFault.{fault_of}
+use Rattle.vrx_core.specs.machine.Machine.{answer_taken, latest, snapshots, reply, what_in}
+use Rattle.vrx_core.specs.honest.Sender.{Sender}
+use Rattle.vrx_core.specs.honest.WireForm.{brought_by}
+use Rattle.vrx_core.specs.honest.HonestSender.{HonestSender}
+use Rattle.vrx_core.specs.honest.HonestNetwork.{Origin, FromSender, Elsewhere, HonestNetwork, greatest, takes, taken}
+use Rattle.vrx_core.specs.honest.Ready.{IsNumber}
+use Rattle.vrx_core.specs.declared.settings.Settings.{Settings}
+use Rattle.vrx_core.specs.declared.event.Event.{Event}
+use Rattle.vrx_core.specs.declared.event.Event.TheVariants.{Datagram, Tick, Pull}
+
+-- packet i is one to take, after these packets were taken: no packet was, or it is none of them, fewer than 2,048
+-- places below the greatest of them, and fewer than 32,768 above it
+abbrev pub IsToTake : ℕ → List ℕ → Type 0
+IsToTake i [] = Unit {0}
+IsToTake i (j ∷ js) = (i < greatest (j ∷ js) + HALF_SPACE) × (greatest (j ∷ js) < i + WINDOW) × (Contains (j ∷ js) i → ⊥)
+
+-- packet i is one to keep: it was taken, and lies fewer than 2,048 places below the greatest packet taken
+abbrev pub IsToKeep : ℕ → List ℕ → Type 0
+IsToKeep i js = Contains js i × (greatest js < i + WINDOW)
+
+-- packet i is available after a history, under its number and with its content
+abbrev pub IsKeptAt : Settings → Meaning → Sender → List Event → List Origin → ℕ → Type 0
+IsKeptAt settings codec sender h origins i = (n : ℕ) × IsNumber sender (taken settings codec h origins) i n
+    × IsSomeAnd (slice_get sender.packets i) (λ packet. at n (latest (snapshots settings codec h)).window.packets ≡ Some (brought_by packet))
+
+-- what is available after a history
+pub record KeepsRightly (settings : Settings) (codec : Meaning) (sender : Sender) (h : List Event) (origins : List Origin) : Type 0 where
+  -- a packet is available, under its number and with its content, exactly if it is one to keep
+  pub kept : (i : ℕ) → IsKeptAt settings codec sender h origins i ↔ IsToKeep i (taken settings codec h origins)
+  -- an available number is that of a packet to keep
+  pub only : (n : ℕ) → is_available n (latest (snapshots settings codec h)).window.packets ≡ true → (i : ℕ) × IsNumber sender (taken settings codec h origins) i n × IsToKeep i (taken settings codec h origins)
+
+-- what a datagram that brings packet i of the sender meets after a history
+pub record TakesPacket (settings : Settings) (codec : Meaning) (sender : Sender) (h : List Event) (origins : List Origin) (moment : ℕ) (octets : List ℕ) (i : ℕ) : Type 0 where
+  -- it is taken exactly if its packet is one to take
+  pub exactly : (takes settings codec h octets ≡ true) ↔ IsToTake i (taken settings codec h origins)
+  -- if it is taken, it is answered as what it brings, by the number by which the receiver knows the packet from then
+  -- on
+  pub answer : takes settings codec h octets ≡ true → (n : ℕ) × IsNumber sender (i ∷ taken settings codec h origins) i n
+      × IsSomeAnd (slice_get sender.packets i) (λ packet. what_in (reply settings codec h (Datagram moment octets)) ≡ Some (answer_taken n (brought_by packet)))
+
+-- each datagram of the sender is taken and answered rightly
+abbrev pub IsTakenRightly : Settings → Meaning → Sender → List Event → List Origin → Event → Origin → Type 0
+IsTakenRightly settings codec sender h origins (Datagram moment octets) (FromSender i) = TakesPacket settings codec sender h origins moment octets i
+IsTakenRightly settings codec sender h origins (Datagram moment octets) Elsewhere = Unit {0}
+IsTakenRightly settings codec sender h origins (Tick moment) origin = Unit {0}
+IsTakenRightly settings codec sender h origins (Pull moment) origin = Unit {0}
+
+-- after a history and after each of the events that follow it, the packets available are those to keep; and each
+-- event takes what is to be taken, and answers it by its number
+abbrev pub TakesRightly : Settings → Meaning → Sender → List Event → List Origin → List Event → List Origin → Type 0
+TakesRightly settings codec sender h origins [] [] = KeepsRightly settings codec sender h origins
+TakesRightly settings codec sender h origins (e ∷ es) (o ∷ os) =
+    KeepsRightly settings codec sender h origins × IsTakenRightly settings codec sender h origins e o × TakesRightly settings codec sender (e ∷ h) (o ∷ origins) es os
+TakesRightly settings codec sender h origins [] (o ∷ os) = ⊥
+TakesRightly settings codec sender h origins (e ∷ es) [] = ⊥
+
+-- every honest call takes and keeps so, whatever settings without a fault and whatever the codec's meaning
+abbrev pub HonestTakenHolds : Type 0
+HonestTakenHolds = (settings : Settings) (codec : Meaning) (sender : Sender) (events : List Event) (origins : List Origin) → fault_of settings ≡ None → HonestSender settings codec sender → HonestNetwork settings codec sender [] [] events origins → TakesRightly settings codec sender [] [] events origins

@@ -1,0 +1,16 @@
+-- The machine: what becomes of each event, after a history of events. `Machine` puts the others together. Then what
+-- the definitions come to, as laws.
+pub mod History
+pub mod SettingsFault
+pub mod Text
+pub mod Original
+pub mod Verdict
+pub mod Standing
+pub mod Deliverable
+pub mod Machine
+pub mod Reasons
+pub mod Available
+pub mod Answers
+pub mod Passed
+pub mod PulledRise
+pub mod Clock

@@ -1,0 +1,152 @@
+-- When a datagram is taken, and what becomes of it otherwise.
+use Rattle.std.specs.Prelude.{◌≡◌, ◌≢◌, ◌↔◌, ◌⊎◌, ℕ, ◌+◌, ◌<◌, ◌≤◌, true, false, List, [], length, Option, Some, None, IfSome, IsSomeAnd, Result, Ok, Err}
+use Rattle.vrx_num.specs.Extended.{IsHalfAway, extended}
+use Rattle.vrx_num.specs.declared.limits.TheConstants.{WINDOW, MOST_OCTETS, HALF_SPACE}
+use Rattle.vrx_rtp.specs.Packet.{Packet, AreOctets}
+use Rattle.vrx_rtp.specs.Reading.{reading}
+use Rattle.vrx_rtp.specs.Rtcp.{IsRtcp}
+use Rattle.vrx_rtp.specs.declared.fault.RtpFault.{RtpFault}
+use Rattle.vrx_rtp.specs.declared.fault.RtpFaultKind.{RtpFaultKind}
+use Rattle.vrx_rtp.specs.declared.fault.RtpFaultKind.TheVariants.{Short, Version, CsrcPastEnd, ExtensionPastEnd, PaddingPastEnd}
+use Rattle.vrx_rtcp.specs.Compound.{Spelled, IsCompound, HasFault}
+use Rattle.vrx_rtcp.specs.declared.fault.RtcpFault.{RtcpFault}
+use Rattle.vrx_codec.specs.Part.{Part}
+use Rattle.vrx_codec.specs.declared.part.Layers.{Layers}
+use Rattle.vrx_codec.specs.declared.fault.PartFault.{PartFault}
+use Rattle.vrx_codec.specs.Meaning.{Meaning}
+use Rattle.vrx_window.specs.Content.{Content, Media, Fec, Empty}
+use Rattle.vrx_window.specs.Window.{Contents, is_available, is_dead}
+use Rattle.vrx_core.specs.machine.Text.{packet_text}
+use Rattle.vrx_core.specs.machine.Verdict.{verdict}
+use Rattle.vrx_core.specs.declared.settings.Settings.{Settings}
+use Rattle.vrx_core.specs.declared.original.NotTaken.{NotTaken}
+use Rattle.vrx_core.specs.declared.original.NotTaken.TheVariants.{Control, Refused}
+use Rattle.vrx_core.specs.declared.reply.What.{What}
+use Rattle.vrx_core.specs.declared.reply.What.TheVariants as whats
+use Rattle.vrx_core.specs.declared.reply.Reason.TheVariants.{TooLong, BadRtcp, NotRtp, BadHeader, OtherSsrc, OtherType, BadPart, Form, TooFar, TooOld, Dead, Repeat}
+
+-- a datagram isn't too long, and is RTCP
+pub record IsControl (octets : List ℕ) : Type 0 where
+  pub size : length octets ≤ MOST_OCTETS
+  pub rtcp : IsRtcp octets
+
+-- a datagram isn't too long, and isn't RTCP
+pub record IsForRtp (octets : List ℕ) : Type 0 where
+  pub size : length octets ≤ MOST_OCTETS
+  pub other : IsRtcp octets → ⊥
+
+-- octets that are for RTP read as this packet
+pub record IsRead (octets : List ℕ) (packet : Packet) : Type 0 where
+  pub rtp : IsForRtp octets
+  pub reads : reading octets ≡ Ok packet
+
+-- octets are a packet of the stream
+pub record IsOfStream (settings : Settings) (octets : List ℕ) (packet : Packet) : Type 0 where
+  pub read : IsRead octets packet
+  pub source : packet.ssrc ≡ settings.media_ssrc
+  pub type : packet.pt ≡ settings.media_type
+
+-- octets that are for RTP have this fault as such
+pub record IsMisread (octets : List ℕ) (what : RtpFaultKind) : Type 0 where
+  pub rtp : IsForRtp octets
+  pub fault : RtpFault
+  pub reads : reading octets ≡ Err fault
+  pub kind : fault.kind ≡ what
+
+-- a payload isn't empty, and the codec's reader finds a fault of this code in it
+pub record HasBadPart (codec : Meaning) (payload : List ℕ) (code : ℕ) : Type 0 where
+  pub some : payload ≢ []
+  pub fault : PartFault
+  pub reads : codec.read payload ≡ Err fault
+  pub code_is : fault.code ≡ code
+
+-- a payload isn't empty, and is a part with layers
+pub record HasLayers (codec : Meaning) (payload : List ℕ) : Type 0 where
+  pub some : payload ≢ []
+  pub part : Part
+  pub layers : Layers
+  pub reads : codec.read payload ≡ Ok part
+  pub has : part.layers ≡ Some layers
+
+-- a payload isn't empty, and is a part without layers
+pub record IsPlainPart (codec : Meaning) (payload : List ℕ) : Type 0 where
+  pub some : payload ≢ []
+  pub part : Part
+  pub reads : codec.read payload ≡ Ok part
+  pub plain : part.layers ≡ None
+
+-- what a packet brings: media, by its text without padding, if its payload is a part; nothing, if it has no payload
+abbrev pub Brings : Meaning → Packet → Content → Type 0
+Brings codec packet (Media text) = IsPlainPart codec packet.payload × (text ≡ packet_text packet)
+Brings codec packet Empty = packet.payload ≡ []
+Brings codec packet (Fec payload) = ⊥
+
+-- what each answer means that octets get by themselves
+abbrev pub MeansAside : Settings → Meaning → List ℕ → NotTaken → Type 0
+-- the datagram has more than 9,216 octets
+MeansAside settings codec octets (Refused TooLong) = MOST_OCTETS < length octets
+-- it is RTCP, and has a fault
+MeansAside settings codec octets (Refused BadRtcp) = IsControl octets × (fault : RtcpFault) × HasFault octets fault
+-- it is RTCP, and packets to its end
+MeansAside settings codec octets Control = IsControl octets × (packets : List Spelled) × IsCompound octets packets
+-- it is shorter than a header, or its version isn't 2
+MeansAside settings codec octets (Refused NotRtp) = IsMisread octets Short ⊎ IsMisread octets Version
+-- its contributing sources, its extension or its padding run past its end
+MeansAside settings codec octets (Refused BadHeader) = IsMisread octets CsrcPastEnd ⊎ (IsMisread octets ExtensionPastEnd ⊎ IsMisread octets PaddingPastEnd)
+-- it is a packet of another SSRC
+MeansAside settings codec octets (Refused OtherSsrc) = (packet : Packet) × IsRead octets packet × (packet.ssrc ≢ settings.media_ssrc)
+-- it is a packet of the media SSRC and of another payload type
+MeansAside settings codec octets (Refused OtherType) = (packet : Packet) × IsRead octets packet × (packet.ssrc ≡ settings.media_ssrc) × (packet.pt ≢ settings.media_type)
+-- it is a packet of the stream, and its payload isn't empty and is no part: the codec's reader finds a fault of this
+-- code
+MeansAside settings codec octets (Refused (BadPart code)) = (packet : Packet) × IsOfStream settings octets packet × HasBadPart codec packet.payload code
+-- it is a packet of the stream, and its payload is a part that has layers
+MeansAside settings codec octets (Refused Form) = (packet : Packet) × IsOfStream settings octets packet × HasLayers codec packet.payload
+-- no other answer comes so
+MeansAside settings codec octets (Refused _) = ⊥
+
+-- a datagram is a packet of the stream that brings this
+pub record IsBrought (settings : Settings) (codec : Meaning) (octets : List ℕ) (packet : Packet) (content : Content) : Type 0 where
+  pub stream : IsOfStream settings octets packet
+  pub brings : Brings codec packet content
+
+-- it has this extended number
+pub record IsNumbered (settings : Settings) (codec : Meaning) (newest : Option ℕ) (octets : List ℕ) (n : ℕ) (content : Content) : Type 0 where
+  pub packet : Packet
+  pub brought : IsBrought settings codec octets packet content
+  pub number : extended newest packet.seq ≡ Some n
+
+-- a number lies below the window of the newest number
+abbrev pub IsBelow : Option ℕ → ℕ → Type 0
+IsBelow newest n = IsSomeAnd newest (λ m. n + WINDOW ≤ m)
+
+-- what each verdict means, after a history that left this window
+abbrev pub Means : Settings → Meaning → Contents Content → List ℕ → Result (ℕ × Content) NotTaken → Type 0
+-- the datagram is a packet of the stream, and its wire number lies just half of the number space away from the newest
+-- number
+Means settings codec window octets (Err (Refused TooFar)) = (packet : Packet) × (content : Content) × IsBrought settings codec octets packet content × IsHalfAway window.newest packet.seq
+-- it has an extended number, which lies below the window
+Means settings codec window octets (Err (Refused TooOld)) = (n : ℕ) × (content : Content) × IsNumbered settings codec window.newest octets n content × IsBelow window.newest n
+-- it has an extended number, which doesn't lie below the window and was given up
+Means settings codec window octets (Err (Refused Dead)) = (n : ℕ) × (content : Content) × IsNumbered settings codec window.newest octets n content × (IsBelow window.newest n → ⊥) × (is_dead n window.dead ≡ true)
+-- it has an extended number, which doesn't lie below the window, wasn't given up and is available
+Means settings codec window octets (Err (Refused Repeat)) = (n : ℕ) × (content : Content) × IsNumbered settings codec window.newest octets n content × (IsBelow window.newest n → ⊥) × (is_dead n window.dead ≡ false) × (is_available n window.packets ≡ true)
+-- every other answer comes by the octets themselves
+Means settings codec window octets (Err left) = MeansAside settings codec octets left
+-- it has this extended number and brings this; the number doesn't lie below the window, wasn't given up and isn't
+-- available
+Means settings codec window octets (Ok (n, content)) = IsNumbered settings codec window.newest octets n content × (IsBelow window.newest n → ⊥) × (is_dead n window.dead ≡ false) × (is_available n window.packets ≡ false)
+
+-- what each answer to a datagram means. It is never answered as FEC
+abbrev pub MeansAnswer : Settings → Meaning → Contents Content → List ℕ → What → Type 0
+MeansAnswer settings codec window octets (whats.Media n) = (text : List ℕ) × Means settings codec window octets (Ok (n, Media text))
+MeansAnswer settings codec window octets (whats.Empty n) = Means settings codec window octets (Ok (n, Empty))
+MeansAnswer settings codec window octets whats.Rtcp = Means settings codec window octets (Err Control)
+MeansAnswer settings codec window octets (whats.Dropped reason) = Means settings codec window octets (Err (Refused reason))
+MeansAnswer settings codec window octets (whats.Fec n) = ⊥
+
+-- a verdict comes exactly if its meaning holds, of octets, each below 256. A newest number of 32,768 or more has
+-- no number below 0 nearer to it than half of the number space
+abbrev pub ReasonsHolds : Type 0
+ReasonsHolds = (settings : Settings) (codec : Meaning) (window : Contents Content) (octets : List ℕ) → AreOctets octets → IfSome window.newest (λ m. HALF_SPACE ≤ m)
+    → (result : Result (ℕ × Content) NotTaken) → (verdict settings codec window octets ≡ result) ↔ Means settings codec window octets result

@@ -1,0 +1,16 @@
+mod AnswerLemmas
+mod ApartLemmas
+mod AroundLemmas
+mod CompleteLemmas
+mod JoinLemmas
+mod KeptLemmas
+mod LinkLemmas
+mod MapLemmas
+mod MarkLemmas
+mod MemberLemmas
+mod MoveLemmas
+mod RaiseLemmas
+mod Rows
+mod RunLemmas
+mod StartLemmas
+mod ToldLemmas

@@ -1,0 +1,9 @@
+pub mod Completed
+pub mod Front
+pub mod IsRun
+pub mod Judged
+pub mod Kept
+pub mod Linked
+pub mod Marked
+pub mod Run
+pub mod Shape

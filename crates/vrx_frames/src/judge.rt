@@ -1,0 +1,143 @@
+//! Judges whether the packets of a frame join.
+
+ghost use Rattle.std.specs.Prelude.{◌≡◌, ◌+◌, ◌-◌, ◌^◌, ◌≤◌, true, length, is_some, Some, Ok, IsOk};
+ghost use Rattle.std.specs.Option.{option_map};
+ghost use Rattle.vrx_codec.specs.Joining.{IsPartRead};
+ghost use Rattle.vrx_codec.specs.View.{view};
+ghost use Rattle.vrx_window.specs.Content.{Media, contents_of};
+ghost use Rattle.vrx_window.specs.Sound.{AreSound, place_at};
+ghost use Rattle.vrx_window.specs.Window.{at};
+ghost use Rattle.vrx_frames.specs.Judged.{AreMedia, is_media, judged, octets_of, part_at, part_of, parts_from, says_key};
+
+use crate::search::Span;
+use vrx_codec::{Codec, Join, Part, Place, Run};
+use vrx_num::limits::{MOST_OCTETS, WINDOW};
+use vrx_rtp::read;
+use vrx_window::{Held, Window};
+
+/// Joining begins with no unit and no octets.
+const BEGINNING: Join = Join {
+    unit: None,
+    octets: 0,
+};
+
+/// What a payload says. It reads.
+fn part_in<'a, C: Codec>(payload: &'a [u8]) -> Part<'a>
+    requires { IsOk (C.meaning.read payload.now) }
+    ensures part { C.meaning.read payload.now ≡ Ok (view result) }
+    ensures read { IsPartRead C.meaning (view result) }
+    ensures body { length result.body.now ≤ length payload.now }
+{
+    match C::read_part(payload) {
+        Ok(part) => part,
+        Err(_) => unreachable!(),
+    }
+}
+
+/// What the payload of a media packet's text says. It reads.
+fn part_of<'a, C: Codec>(text: &'a [u8]) -> Part<'a>
+    requires { is_some (part_of C.meaning (Media text.now)) ≡ true }
+    ensures part { part_of C.meaning (Media text.now) ≡ Some (view result) }
+    ensures read { IsPartRead C.meaning (view result) }
+    ensures body { length result.body.now ≤ length text.now }
+{
+    match read(text) {
+        Ok(packet) => part_in::<C>(packet.payload),
+        Err(_) => unreachable!(),
+    }
+}
+
+/// What the payload of a held media packet says.
+fn part_at<C: Codec>(window: &Window, n: u64) -> Part<'_>
+    requires sound { AreSound C.meaning window.now.packets }
+    requires media { is_media (at n window.now.packets) ≡ true }
+    ensures part { part_at C.meaning (contents_of window.now).packets n ≡ Some (view result) }
+    ensures read { IsPartRead C.meaning (view result) }
+    ensures body { length result.body.now ≤ MOST_OCTETS }
+{
+    match window.held(n) {
+        Some(Held::Media { text, .. }) => part_of::<C>(text.as_slice()),
+        _ => unreachable!(),
+    }
+}
+
+/// Whether a held media packet makes its frame a keyframe by itself.
+fn key_at<C: Codec>(window: &Window, n: u64) -> bool
+    requires sound { AreSound C.meaning window.now.packets }
+    requires media { is_media (at n window.now.packets) ≡ true }
+    ensures key { option_map (λ part. part.key) (part_at C.meaning (contents_of window.now).packets n) ≡ Some result }
+{
+    match window.held(n) {
+        Some(Held::Media { key, .. }) => *key,
+        _ => unreachable!(),
+    }
+}
+
+/// The place of a held packet, if it has one.
+fn place_at(window: &Window, n: u64) -> Option<Place>
+    ensures { result ≡ place_at window.now.packets n }
+{
+    match window.held(n) {
+        Some(Held::Media { layers, .. }) => *layers,
+        _ => None,
+    }
+}
+
+/// Whether some of so many packets makes their frame a keyframe.
+fn says_key<C: Codec>(window: &Window, first: u64, count: u64) -> bool
+    requires sound { AreSound C.meaning window.now.packets }
+    requires media { AreMedia window.now.packets first count }
+    requires fits { first + count ≤ 2 ^ 64 }
+    ensures { result ≡ says_key (parts_from C.meaning (contents_of window.now).packets first count) }
+{
+    for k in 0..count {
+        if key_at::<C>(window, first + k) {
+            return true;
+        }
+    }
+    false
+}
+
+/// To how many octets the parts of so many packets join, if they do.
+fn octets_of<C: Codec>(window: &Window, first: u64, count: u64) -> Option<u32>
+    requires sound { AreSound C.meaning window.now.packets }
+    requires media { AreMedia window.now.packets first count }
+    requires fits { first + count ≤ 2 ^ 64 }
+    requires few { count ≤ WINDOW }
+    ensures { result ≡ octets_of C.meaning (parts_from C.meaning (contents_of window.now).packets first count) }
+{
+    let mut state = BEGINNING;
+    for k in 0..count {
+        let part = part_at::<C>(window, first + k);
+        match C::step(state, &part) {
+            Ok(next) => state = next,
+            Err(_) => return None,
+        }
+    }
+    match C::end(state) {
+        Ok(octets) => Some(octets),
+        Err(_) => None,
+    }
+}
+
+/// What is told of a span, if its parts join.
+pub(crate) fn judge<C: Codec>(window: &Window, span: Span) -> Option<Run>
+    requires sound { AreSound C.meaning window.now.packets }
+    requires upto { span.first ≤ span.last }
+    requires media { AreMedia window.now.packets span.first (span.last - span.first + 1) }
+    requires few { span.last - span.first + 1 ≤ WINDOW }
+    ensures { result ≡ judged C.meaning (place_at window.now.packets) (contents_of window.now).packets span }
+{
+    let count = span.last - span.first + 1;
+    match octets_of::<C>(window, span.first, count) {
+        None => None,
+        Some(octets) => Some(Run {
+            first: span.first,
+            last: span.last,
+            ts: span.ts,
+            key: says_key::<C>(window, span.first, count),
+            layers: place_at(window, span.first),
+            octets,
+        }),
+    }
+}

@@ -1,0 +1,45 @@
+-- What holds of packets and of compounds of them (RFC 3550 6.1 and 6.4), as statements on octets, each below 256.
+use Rattle.std.specs.Prelude.{◌≡◌, ℕ, ◌<◌, ◌⊎◌, ◌↔◌, true, false, List, ◌++◌, All, None}
+use Rattle.vrx_rtcp.specs.declared.fault.RtcpFault.{RtcpFault}
+use Rattle.vrx_rtcp.specs.Packet.{Message, IsPacket, BeginsWithPacket}
+use Rattle.vrx_rtcp.specs.Fault.{first_fault}
+use Rattle.vrx_rtcp.specs.Compound.{Spelled, IsCompound, HasFault, is_compound}
+
+-- octets begin with one packet at most, and it says one thing
+abbrev pub BeginsWithOne : Type 0
+BeginsWithOne = (p q x y : List ℕ) (m n : Message) → IsPacket p m → IsPacket q n → p ++ x ≡ q ++ y → (p ≡ q) × (m ≡ n)
+
+-- octets that begin with a packet have no fault
+abbrev pub HasNoFault : Type 0
+HasNoFault = (octets : List ℕ) → BeginsWithPacket octets → first_fault octets ≡ None
+
+-- octets that have no fault begin with a packet
+abbrev pub HasPacket : Type 0
+HasPacket = (octets : List ℕ) → All (λ octet. octet < 256) octets → first_fault octets ≡ None → BeginsWithPacket octets
+
+-- a datagram is a compound in one way at most
+abbrev pub IsOneCompound : Type 0
+IsOneCompound = (datagram : List ℕ) (ps qs : List Spelled) → IsCompound datagram ps → IsCompound datagram qs → ps ≡ qs
+
+-- a datagram is a compound, or it has a first fault
+abbrev pub HasAnswer : Type 0
+HasAnswer = (datagram : List ℕ) → All (λ octet. octet < 256) datagram →
+    ((packets : List Spelled) × IsCompound datagram packets) ⊎ ((fault : RtcpFault) × HasFault datagram fault)
+
+-- a datagram has one first fault at most
+abbrev pub HasOneFault : Type 0
+HasOneFault = (datagram : List ℕ) (e f : RtcpFault) → HasFault datagram e → HasFault datagram f → e ≡ f
+
+-- and none if it is a compound
+abbrev pub HasNotBoth : Type 0
+HasNotBoth = (datagram : List ℕ) (packets : List Spelled) (fault : RtcpFault) → IsCompound datagram packets → HasFault datagram fault → ⊥
+
+-- the test passes exactly if some packets are the compound
+abbrev pub PassesCompounds : Type 0
+PassesCompounds = (datagram : List ℕ) → All (λ octet. octet < 256) datagram →
+    (is_compound datagram ≡ true) ↔ ((packets : List Spelled) × IsCompound datagram packets)
+
+-- and it fails exactly if some fault is the first
+abbrev pub FailsFaults : Type 0
+FailsFaults = (datagram : List ℕ) → All (λ octet. octet < 256) datagram →
+    (is_compound datagram ≡ false) ↔ ((fault : RtcpFault) × HasFault datagram fault)

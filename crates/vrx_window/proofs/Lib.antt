@@ -1,0 +1,8 @@
+mod ContentLemmas
+mod EntryLemmas
+mod FateLemmas
+mod MeansLemmas
+mod NumberLemmas
+mod RingLemmas
+mod WindowLemmas
+mod WindowRows

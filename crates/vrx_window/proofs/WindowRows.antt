@@ -1,0 +1,77 @@
+-- Rows of the definitions, which compute.
+use Rattle.std.proofs.Common.{◌≡◌, true, false, [], ◌∷◌, Some, refl}
+use Rattle.vrx_window.specs.declared.held.Held.{Held}
+use Rattle.vrx_window.specs.declared.held.Held.TheVariants.{Empty}
+use Rattle.vrx_window.specs.declared.placing.Placing.TheVariants.{TooOld, Dead, Repeat, Fresh}
+use Rattle.vrx_window.specs.Window.{Contents, nothing, would_of, placed, given_up}
+
+-- two packets are held, and one number was given up
+abbrev window : Contents Held
+window = record {
+  newest = Some 70000;
+  first = Some 69000;
+  packets = (67953, Empty false) ∷ (70000, Empty false) ∷ [];
+  dead = 67954 ∷ [];
+}
+
+-- 2,047 below the newest number a packet is held; 2,048 below a number is too old
+lowest : would_of window 67953 ≡ Repeat
+lowest = refl
+
+below : would_of window 67952 ≡ TooOld
+below = refl
+
+given_up_once : would_of window 67954 ≡ Dead
+given_up_once = refl
+
+-- above the newest number, and before the first
+above : would_of window 70001 ≡ Fresh
+above = refl
+
+before : would_of window 68999 ≡ Fresh
+before = refl
+
+-- one number further, the lowest packet is gone, and the number given up is now the lowest
+one_further : placed 70001 (Empty true) window ≡ record {
+  newest = Some 70001;
+  first = Some 69000;
+  packets = (70000, Empty false) ∷ (70001, Empty true) ∷ [];
+  dead = 67954 ∷ [];
+}
+one_further = refl
+
+-- below the first number, nothing moves
+between : placed 68999 (Empty true) window ≡ record {
+  newest = Some 70000;
+  first = Some 69000;
+  packets = (67953, Empty false) ∷ (68999, Empty true) ∷ (70000, Empty false) ∷ [];
+  dead = 67954 ∷ [];
+}
+between = refl
+
+-- beyond all that the window had
+jump : placed 72049 (Empty true) window ≡ record {
+  newest = Some 72049;
+  first = Some 69000;
+  packets = (72049, Empty true) ∷ [];
+  dead = [];
+}
+jump = refl
+
+-- the first number
+begin : placed 65537 (Empty true) nothing ≡ record {
+  newest = Some 65537;
+  first = Some 65537;
+  packets = (65537, Empty true) ∷ [];
+  dead = [];
+}
+begin = refl
+
+-- numbers given up stand in their order
+in_order : given_up 69000 (given_up 69999 window) ≡ record {
+  newest = Some 70000;
+  first = Some 69000;
+  packets = (67953, Empty false) ∷ (70000, Empty false) ∷ [];
+  dead = 67954 ∷ 69000 ∷ 69999 ∷ [];
+}
+in_order = refl

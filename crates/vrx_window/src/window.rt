@@ -1,0 +1,109 @@
+//! The window of packets.
+
+ghost use Rattle.std.specs.Prelude.{◌≡◌, true, IfOk};
+ghost use Rattle.std.specs.Option.{option_copied};
+ghost use Rattle.vrx_window.specs.IsWindow.{IsWindow};
+ghost use Rattle.vrx_window.specs.Window.{at, given_up, is_inside, nothing, placed, would_of};
+ghost use Rattle.vrx_window.specs.declared.placing.Placing.TheVariants.{Fresh};
+
+use crate::fate::Fate;
+use crate::held::Held;
+use crate::placing::Placing;
+use crate::ring::{Ring, is_too_old};
+use std::alloc::Global;
+use std::marker::Model;
+use vrx_num::NoMemory;
+
+/// The packets held under the last 2,048 numbers up to the greatest one placed, and the numbers given up there.
+///
+/// Contracts see the greatest number placed, the first one placed, the packets as a map from numbers, and the numbers
+/// given up as a set. What the window has left is gone from both. Its memory is taken once: 2,048 slots. A packet
+/// that the window has left gives its memory back when its slot is taken again, or with the window.
+#[derive(Drop)]
+pub struct Window {
+    first: Option<u64>,
+    ring: Ring<Fate>,
+}
+
+impl Model for Window {
+    ghost use Rattle.vrx_window.specs.Window.{Contents};
+    ghost use Rattle.vrx_window.specs.declared.held.Held.{Held};
+
+    ghost Value = { Contents Held };
+
+    ghost use Rattle.vrx_window.specs.Fates.{shown_of};
+    ghost use Rattle.vrx_window.specs.Numbered.{IsNumbered};
+
+    ghost view = { λ a. shown_of a.first a.ring };
+
+    ghost invariant = { λ a. IsNumbered a.ring };
+}
+
+impl Window {
+    /// A window in which nothing was placed yet. Only this call takes memory.
+    pub fn new(alloc: Global) -> Result<Window, NoMemory>
+        ensures nothing { IfOk result (λ window. window ≡ nothing) }
+    {
+        let ring = Ring::new(alloc)?;
+        Ok(Window { first: None, ring })
+    }
+
+    /// The greatest number placed. Its contract also says what always holds of a window.
+    pub fn newest(&self) -> Option<u64>
+        ensures newest { result ≡ self.now.newest }
+        ensures sound { IsWindow self.now }
+    {
+        self.ring.newest()
+    }
+
+    /// The first number placed.
+    pub fn first(&self) -> Option<u64>
+        ensures first { result ≡ self.now.first }
+    {
+        self.first
+    }
+
+    /// The packet held under a number, if the number is in the window and has one.
+    pub fn held(&self, n: u64) -> Option<&Held>
+        ensures held { option_copied result ≡ at n self.now.packets }
+    {
+        match self.ring.get(n) {
+            Some(Fate::Taken(held)) => Some(held),
+            Some(Fate::GivenUp) => None,
+            None => None,
+        }
+    }
+
+    /// Whether a packet can be placed under a number, and if not, why.
+    pub fn would(&self, n: u64) -> Placing
+        ensures would { result ≡ would_of self.now n }
+    {
+        if is_too_old(self.ring.newest(), n) {
+            return Placing::TooOld;
+        }
+        match self.ring.get(n) {
+            Some(Fate::GivenUp) => Placing::Dead,
+            Some(Fate::Taken(_)) => Placing::Repeat,
+            None => Placing::Fresh,
+        }
+    }
+
+    /// Places a packet under a number of which `would` says that it is fresh. A number greater than the newest moves
+    /// the window, and what the window leaves is gone. It takes no memory.
+    pub fn place(&mut self, n: u64, held: Held)
+        requires fresh { would_of self.old n ≡ Fresh }
+        ensures placed { self.new ≡ placed n held self.old }
+    {
+        self.ring.place(n, Fate::Taken(held));
+        self.first = Some(self.first.unwrap_or(n));
+    }
+
+    /// Gives up a number of the window that isn't held and wasn't given up yet. It takes no memory.
+    pub fn give_up(&mut self, n: u64)
+        requires inside { is_inside self.old.newest n ≡ true }
+        requires fresh { would_of self.old n ≡ Fresh }
+        ensures given_up { self.new ≡ given_up n self.old }
+    {
+        self.ring.place(n, Fate::GivenUp);
+    }
+}

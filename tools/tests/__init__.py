@@ -1,0 +1,1 @@
+"""What is tested of the tools. `tools/check` runs all of it."""
