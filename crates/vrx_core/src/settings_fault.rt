@@ -5,6 +5,7 @@ ghost use Rattle.std.specs.List.{list_any};
 ghost use Rattle.vrx_core.specs.machine.SettingsFault.{given, types_of, ssrcs_of, is_bad_type as is_bad_type_of, holds as holds_of, has_equal as has_equal_of, lacks_red as lacks_red_of, is_bad_interval as is_bad_interval_of, fault_of as first_fault_of};
 
 use crate::settings::{NewFault, Settings};
+use vrx_num::limits::LONGEST_INTERVAL;
 
 /// The payload types that may be given.
 fn types_in(settings: &Settings) -> [Option<u32>; 5]
@@ -95,7 +96,7 @@ fn lacks_red(settings: &Settings) -> bool
 fn is_bad_interval(interval: u32) -> bool
     ensures { result ≡ is_bad_interval_of interval }
 {
-    interval == 0 || interval > 60_000
+    interval == 0 || interval > LONGEST_INTERVAL
 }
 
 /// The fault of settings, if they have one.

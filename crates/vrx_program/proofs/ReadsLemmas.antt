@@ -1,4 +1,4 @@
--- What was read so far of a capture, behind its first line, and what each call of the reader adds.
+-- What was read of a capture, after its first line, and what each call of the reader adds.
 use Rattle.std.proofs.Common.{◌≡◌, ◌⊎◌, ℕ, ◌+◌, true, false, List, [], ◌∷◌, ◌++◌, length, refl, sym, ap, subst, ◌∙◌, inl, inr, append_assoc, append-nil, arith}
 use Rattle.std.specs.Prelude.{Option, Some, None}
 use Rattle.std.specs.Option.{option_map}

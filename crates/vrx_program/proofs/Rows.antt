@@ -172,7 +172,7 @@ pub parts-honest : IsHonestCapture parts_capture sender (FromSender 2 ∷ FromSe
 unfolding text_on_literals settings_of snapshots taken
 parts-honest = (sender-honest, ((inl refl, tt), ((inl refl, (omega arith, omega arith)), ((inl refl, (omega arith, omega arith)), (tt, tt)))))
 
--- an inspection: a datagram, a tick, a pull and a bad line under settings that a replay doesn't take so far
+-- an inspection: a datagram, a tick, a pull and a bad line under settings that a replay doesn't take
 abbrev inspected_capture : List ℕ
 inspected_capture = codes "vrx 1 codec=h264 ssrc=0000000a pt=96 from=0000000b" ++ line_feed ++ codes "d 0 8060000100000000000000" ++ line_feed ++ codes "t 1" ++ line_feed ++ codes "p 1 " ++ line_feed
 

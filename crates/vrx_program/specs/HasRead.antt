@@ -1,4 +1,4 @@
--- What the reader of a capture has read so far.
+-- What the reader of a capture has read.
 use Rattle.std.specs.Prelude.{◌≡◌, ◌⊎◌, ℕ, ◌+◌, true, List, [], ◌∷◌, ◌++◌, length, Option, None}
 use Rattle.vrx_io.specs.Source.{IsSpent}
 use Rattle.vrx_core.specs.declared.event.Event.{Event}

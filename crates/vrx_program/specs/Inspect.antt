@@ -19,7 +19,7 @@ use Rattle.vrx_program.specs.Outcome.{Outcome, refused, status_of, error_text}
 use Rattle.vrx_program.specs.Job.{Answering, most_events, bad_line}
 
 -- settings without a fault are right, whatever the codec; and so are those whose only fault is that a replay doesn't
--- take them so far
+-- take them
 abbrev pub is_right : Option NewFault → Bool
 is_right None = true
 is_right (Some faults.Later) = true

@@ -7,13 +7,14 @@ use Rattle.vrx_text.specs.Reading.{Reading, reading}
 use Rattle.vrx_text.specs.declared.line.LineReason.{LineReason}
 use Rattle.vrx_text.specs.declared.transcript.ErrorReason.{ErrorReason}
 use Rattle.vrx_text.specs.declared.transcript.ErrorReason.TheVariants as errors
+use Rattle.vrx_num.specs.declared.limits.TheConstants.{MOST_EVENTS}
 use Rattle.vrx_program.specs.Outcome.{Outcome, refused, status_of, error_text}
 use Rattle.vrx_program.specs.declared.job.Unanswered.{Unanswered}
 use Rattle.vrx_program.specs.declared.job.Unanswered.TheVariants as unanswered
 
 -- an engine takes so many events at most, and so does each run
 abbrev pub most_events : ℕ
-most_events = 1048576
+most_events = MOST_EVENTS
 
 -- what a word does with each event: its text, by the events before it, the newest first, and by the number of its
 -- line; or why it refuses the event, and then the run ends

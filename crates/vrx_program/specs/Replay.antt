@@ -32,7 +32,7 @@ meaning_of Vp8 = vp8
 meaning_of H264 = h264
 
 -- a codec and settings with this fault, if any: the fault is the line's; but RED and retransmissions are right, and not
--- taken so far
+-- taken
 abbrev pub taken : CodecName → Settings → Option NewFault → Result (CodecName × Settings) ErrorReason
 taken codec settings (Some faults.Later) = Err errors.Later
 taken codec settings (Some fault) = Err errors.Settings
@@ -67,7 +67,7 @@ first_tick [] = None
 first_tick ((k, Tick moment) ∷ lines) = Some k
 first_tick ((k, event) ∷ lines) = first_tick lines
 
--- the first line that is refused: that of the first tick, since ticks are right and not taken so far, or the bad line
+-- the first line that is refused: that of the first tick, since ticks are right and not taken, or the bad line
 abbrev pub first_refused : Option ℕ → Option (ℕ × LineReason) → Option (ℕ × ErrorReason)
 first_refused (Some k) bad = Some (k, errors.Later)
 first_refused None (Some (k, reason)) = Some (k, errors.Line reason)

@@ -7,7 +7,7 @@ ghost use Rattle.vrx_core.specs.relation.StandsFor.{StandsFor};
 ghost use Rattle.vrx_core.specs.declared.event.Event.{Event};
 ghost use Rattle.vrx_text.specs.Transcript.{text_of};
 ghost use Rattle.vrx_text.specs.declared.settings_line.CodecName.{CodecName};
-ghost use Rattle.vrx_program.specs.Job.{IfRefused};
+ghost use Rattle.vrx_program.specs.Job.{IfRefused, most_events};
 ghost use Rattle.vrx_program.specs.Replay.{refuses_tick, replayed, hindrance_of, taken};
 ghost use Rattle.vrx_program.specs.Replays.{replaying_by, HasReplayed, replayed_count};
 
@@ -47,7 +47,7 @@ fn reply_of<C: Codec>(
     k: u32,
     event: &Event,
 ) -> Result<Vec<u8>, Unanswered>
-    requires room { engine.old.events < 1048576 }
+    requires room { engine.old.events < most_events }
     ensures text { (h : List Event) → StandsFor C.meaning engine.old h →
         IfOk result (λ text. text.items ≡ text_of k (reply engine.old.settings C.meaning h event.now)) }
     ensures stands { (h : List Event) → StandsFor C.meaning engine.old h →

@@ -21,7 +21,7 @@ word text = before_first (λ octet. octet == 32) text
 unfoldable pub behind_word : List ℕ → List ℕ
 behind_word text = after_first (λ octet. octet == 32) text
 
--- the number whose digits so far make `value`, with these digits behind them, where it is at most `most`
+-- the number whose first digits make `value`, with these digits after them, if it is at most `most`
 unfoldable pub number_from : ℕ → ℕ → List ℕ → Option ℕ
 number_from most value [] = Some value
 number_from most value (digit ∷ digits) =

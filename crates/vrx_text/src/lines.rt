@@ -200,7 +200,7 @@ impl Lines {
         }
     }
 
-    /// Takes the next line, where none was bad so far.
+    /// Takes the next line, if none was bad.
     fn step<S: Source>(&mut self, source: &mut S) -> Result<Option<Line>, LineFault>
         requires { self.old.bad ≡ None }
         ensures step { IsStep (ReadsSo S.is_read IsPart self.old.kept source.old source.new)
@@ -222,7 +222,7 @@ impl Lines {
         }
     }
 
-    /// The next event, or that there is none, where no line was bad so far.
+    /// The next event, or that there is none, if no line was bad.
     fn next_on<S: Source>(&mut self, source: &mut S) -> Result<Line, LineFault>
         requires { self.old.bad ≡ None }
         ensures next { (passes : Passes self.old self.new (S.left source.old) (S.left source.new)) ×

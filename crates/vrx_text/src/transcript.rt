@@ -18,7 +18,7 @@ use vrx_rtcp::Feedback;
 pub enum ErrorReason {
     /// It is the first line, and it is absent, too long, no settings line, or its settings are refused.
     Settings,
-    /// It is right, and asks for what isn't done so far.
+    /// It is right, and asks for what `replay` doesn't take.
     Later,
     /// It is bad for this reason.
     Line(LineReason),

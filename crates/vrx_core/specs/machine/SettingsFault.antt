@@ -2,6 +2,7 @@
 use Rattle.std.specs.Prelude.{◌≡◌, ◌⊎◌, ℕ, ◌<◌, ◌≤◌, Bool, false, ◌&&◌, ◌||◌, ◌==◌, nat_lt, nat_le, if◌then◌else◌, List, [], ◌∷◌, length, slice_index, Option, Some, None, is_some, is_none}
 use Rattle.std.specs.List.{Any, list_any, filter_map}
 use Rattle.std.specs.Option.{IsSome, IsNone, option_map, option_and_then}
+use Rattle.vrx_num.specs.declared.limits.TheConstants.{LONGEST_INTERVAL}
 use Rattle.vrx_core.specs.declared.settings.Settings.{Settings}
 use Rattle.vrx_core.specs.declared.settings.NewFault.{NewFault}
 use Rattle.vrx_core.specs.declared.settings.NewFault.TheVariants.{BadType, SameType, SameSsrc, RedMissing, BadInterval, Later, NoMemory}
@@ -44,7 +45,7 @@ Says settings SameSsrc = HasEqual (ssrcs_of settings)
 -- there is a type of RED in retransmissions, and no RED
 Says settings RedMissing = IsSome (option_and_then (λ rtx. rtx.red_rtx_type) settings.rtx) × IsNone settings.red
 -- the interval is 0 or above 60,000 milliseconds
-Says settings BadInterval = (settings.interval ≡ 0) ⊎ (60000 < settings.interval)
+Says settings BadInterval = (settings.interval ≡ 0) ⊎ (LONGEST_INTERVAL < settings.interval)
 -- RED or retransmissions are given, which the receiver doesn't take
 Says settings Later = IsSome settings.red ⊎ IsSome settings.rtx
 -- `NoMemory` says nothing of settings
@@ -75,7 +76,7 @@ abbrev pub lacks_red : Settings → Bool
 lacks_red settings = is_some (option_and_then (λ rtx. rtx.red_rtx_type) settings.rtx) && is_none settings.red
 
 abbrev pub is_bad_interval : ℕ → Bool
-is_bad_interval interval = (interval == 0) || nat_lt 60000 interval
+is_bad_interval interval = (interval == 0) || nat_lt LONGEST_INTERVAL interval
 
 abbrev pub is_later : Settings → Bool
 is_later settings = is_some settings.red || is_some settings.rtx
