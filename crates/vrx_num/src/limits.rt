@@ -14,3 +14,9 @@ pub const MOST_EVENTS: u32 = 1_048_576;
 
 /// The longest interval between two requests of a number, in milliseconds.
 pub const LONGEST_INTERVAL: u32 = 60_000;
+
+/// A missing number is asked for at most so often.
+pub const MOST_REQUESTS: u64 = 10;
+
+/// A keyframe is asked for again only this long after the last time, in milliseconds, unless one completed since then.
+pub const KEY_REQUEST_WAIT: u64 = 300;
