@@ -30,6 +30,7 @@ mod laws;
 mod packet;
 mod reading;
 pub mod types;
+mod writing;
 
 pub use compound::read_compound;
 pub use fault::{RtcpFault, RtcpFaultKind};
@@ -37,6 +38,7 @@ pub use feedback::Feedback;
 pub use laws::{one_answer, one_packet};
 pub use packet::{Body, Bye, Nack, Packet, Pli, ReceiverReport, SenderReport};
 pub use reading::read_packet;
+pub use writing::pli;
 
 #[cfg(test)]
 mod tests;
