@@ -1,17 +1,19 @@
 -- Items of a generic NACK: those that one pass over the numbers makes are those of the definition, and what they
 -- name is read of them.
-use Rattle.std.proofs.Common.{◌≡◌, ℕ, zero, suc, ◌+◌, ◌-◌, ◌*◌, ◌%◌, ◌/◌, ◌^◌, ◌<◌, ◌≤◌, Bool, true, false, cond, ltb, leb, eqb, ◌&&◌, List, [], ◌∷◌, ◌++◌, length, map, refl, sym, ap, subst, ◌∙◌, append_assoc, arith, inl, inr}
+use Rattle.std.proofs.Common.{◌≡◌, ℕ, zero, suc, ◌+◌, ◌-◌, ◌*◌, ◌%◌, ◌/◌, ◌^◌, ◌<◌, ◌≤◌, Bool, true, false, cond, ltb, leb, eqb, ◌&&◌, List, [], ◌∷◌, ◌++◌, length, get_or, drop, map, refl, sym, ap, subst, ◌∙◌, append_assoc, arith, inl, inr}
 use Rattle.std.specs.List.{sum_by, filter, flat_map, range_with_len}
 use Rattle.std.specs.Prelude.{slice_index}
 use Rattle.std.specs.List.Sorted.{IsStrictlyIncreasing}
 use Rattle.std.specs.Int.{w16, to_be_bytes, from_be_bytes, bit_at}
 use Rattle.std.proofs.Math.Nat.{pow-le-pow_right, pow-suc}
 use Rattle.std.proofs.lemmas.Bool.{cases_lt, cases_eq, ne_eqb, lt-ltb, le-ltb, le-leb, lt-leb, and_right}
-use Rattle.std.proofs.lemmas.List.{length-append}
+use Rattle.std.proofs.lemmas.List.{length-append, length-map}
+use Rattle.std.proofs.lemmas.List.Folds.{flat_map-map}
 use Rattle.std.proofs.lemmas.List.Sums.{sum_by-cons}
 use Rattle.std.proofs.lemmas.Nat.{shr-shr, from_be_bytes-to_be_bytes_2, pow_pos}
+use Rattle.vrx_rtcp.specs.declared.types.TheConstants.{RTPFB, FMT_NACK}
 use Rattle.vrx_rtcp.specs.declared.writing.Item.{Item}
-use Rattle.vrx_rtcp.specs.Feedback.{later_firsts, firsts, numbers_in_reach, blp_of, item_octets, items_octets, item_numbers, numbers_named}
+use Rattle.vrx_rtcp.specs.Feedback.{feedback_head, nack_octets, later_firsts, firsts, numbers_in_reach, blp_of, item_octets, items_octets, item_numbers, numbers_named}
 use Rattle.vrx_rtcp.specs.View.{item_of}
 
 -- numbers that rise, each above p and none above top, nor p
@@ -120,6 +122,13 @@ items-are top first later rises =
     ap (λ (k : ℕ). record { first = first; blp = k } ∷ later_items first later) (sym (blp_of-before first first later (omega arith)))
     ∙ ap (λ (x : List Item). item_of (first ∷ later) first ∷ x) (later_items-is top first first (first ∷ []) later (omega arith, tt) rises)
 
+-- the octets of an item, and of the items of numbers
+abbrev pub octets_of : Item → List ℕ
+octets_of item = to_be_bytes w16 (item.first % 65536) ++ to_be_bytes w16 item.blp
+
+pub octets_of-items : (numbers firsts : List ℕ) → flat_map octets_of (map (item_of numbers) firsts) ≡ flat_map (item_octets numbers) firsts
+octets_of-items numbers firsts = flat_map-map octets_of (item_of numbers) firsts
+
 -- ---- one pass over the numbers
 
 -- the items so far, the open one with the bits to come, and those after it are all the items
@@ -182,6 +191,23 @@ building-ends top least all items first blp b = ap (λ (k : ℕ). items ++ recor
 -- the open item begins no later than the last number
 pub building-within : (top least : ℕ) (all items : List Item) (first blp : ℕ) (rest : List ℕ) → Building top least all items first blp rest → first ≤ top
 building-within top least all items first blp rest b = RisesTo-top top first rest b.rises
+
+-- a list that isn't empty is its first element and the others
+first_and_later : (numbers : List ℕ) → 1 ≤ length numbers → get_or numbers 0 0 ∷ drop 1 numbers ≡ numbers
+first_and_later [] some = absurd (omega (arith, some))
+first_and_later (n ∷ numbers) some = refl
+
+-- what is written of the items of numbers is the NACK
+pub nack-made : (from media words : ℕ) (numbers later : List ℕ) (items : List Item) → 1 ≤ length numbers → later ≡ drop 1 numbers
+    → items ≡ map (item_of (get_or numbers 0 0 ∷ later)) (firsts (get_or numbers 0 0 ∷ later)) → words ≡ 2 + length items
+    → feedback_head FMT_NACK RTPFB words from media ++ flat_map octets_of items ≡ nack_octets from media numbers
+nack-made from media words numbers later items some split made counted =
+    let whole : get_or numbers 0 0 ∷ later ≡ numbers = ap (λ (x : List ℕ). get_or numbers 0 0 ∷ x) split ∙ first_and_later numbers some in
+    let same : items ≡ map (item_of numbers) (firsts numbers) = made ∙ ap (λ (x : List ℕ). map (item_of x) (firsts x)) whole in
+    let count : words ≡ 2 + length (firsts numbers) = counted ∙ ap (λ (x : List Item). 2 + length x) same ∙ ap (λ (k : ℕ). 2 + k) (length-map (firsts numbers) (item_of numbers)) in
+    ap (λ (k : ℕ). feedback_head FMT_NACK RTPFB k from media ++ flat_map octets_of items) count
+    ∙ ap (λ (x : List Item). feedback_head FMT_NACK RTPFB (2 + length (firsts numbers)) from media ++ flat_map octets_of x) same
+    ∙ ap (λ (x : List ℕ). feedback_head FMT_NACK RTPFB (2 + length (firsts numbers)) from media ++ x) (octets_of-items numbers (firsts numbers))
 
 -- ---- what items name is read of them
 

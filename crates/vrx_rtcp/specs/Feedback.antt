@@ -42,15 +42,20 @@ item_octets numbers first = to_be_bytes w16 (first % 65536) ++ to_be_bytes w16 (
 abbrev pub items_octets : List ℕ → List ℕ
 items_octets numbers = flat_map (item_octets numbers) (firsts numbers)
 
--- a generic NACK of these numbers, from one SSRC and on the media of another
+-- what a feedback message has before them (RFC 4585 6.1): a header without padding, and the SSRCs of its sender and
+-- of the media
+abbrev pub feedback_head : ℕ → ℕ → ℕ → ℕ → ℕ → List ℕ
+feedback_head format kind words from media =
+    first_octet false format ∷ kind ∷ to_be_bytes w16 words ++ to_be_bytes w32 from ++ to_be_bytes w32 media
+
+-- a generic NACK of these numbers
 abbrev pub nack_octets : ℕ → ℕ → List ℕ → List ℕ
 nack_octets from media numbers =
-    first_octet false FMT_NACK ∷ RTPFB ∷ to_be_bytes w16 (2 + length (firsts numbers))
-    ++ to_be_bytes w32 from ++ to_be_bytes w32 media ++ items_octets numbers
+    feedback_head FMT_NACK RTPFB (2 + length (firsts numbers)) from media ++ items_octets numbers
 
 -- a picture loss indication
 abbrev pub pli_octets : ℕ → ℕ → List ℕ
-pli_octets from media = first_octet false FMT_PLI ∷ PSFB ∷ to_be_bytes w16 2 ++ to_be_bytes w32 from ++ to_be_bytes w32 media
+pli_octets from media = feedback_head FMT_PLI PSFB 2 from media
 
 -- ---- what is read of items
 

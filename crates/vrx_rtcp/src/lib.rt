@@ -38,7 +38,7 @@ pub use feedback::Feedback;
 pub use laws::{one_answer, one_packet};
 pub use packet::{Body, Bye, Nack, Packet, Pli, ReceiverReport, SenderReport};
 pub use reading::read_packet;
-pub use writing::pli;
+pub use writing::{nack_of, pli};
 
 #[cfg(test)]
 mod tests;

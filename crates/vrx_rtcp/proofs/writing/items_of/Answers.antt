@@ -52,8 +52,8 @@ push-requires c =
     let few = c.loop-n.invariant.few in
     (omega arith, omega arith)
 
-pub returns : goal.returns
-returns c =
+pub returns-clause-items : goal.returns-clause-items
+returns-clause-items c =
     let later = c.args.later.now in
     let at_end : drop c.loop-n.n-index later ≡ [] = drop_all c.loop-n.n-index later c.loop-n-test.false in
     let ended : Stands c.args.first later c.loop-n.items.items c.loop-n.item [] = subst (λ (x : List ℕ). Stands c.args.first later c.loop-n.items.items c.loop-n.item x) at_end c.loop-n.invariant in
