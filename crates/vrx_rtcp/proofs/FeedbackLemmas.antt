@@ -1,5 +1,4 @@
--- Items of a generic NACK: those that one pass over the numbers makes are those of the definition, and what they
--- name is read of them.
+-- Items of a generic NACK: those that one pass over the numbers makes are those of the definition.
 use Rattle.std.proofs.Common.{◌≡◌, ℕ, zero, suc, ◌+◌, ◌-◌, ◌*◌, ◌%◌, ◌/◌, ◌^◌, ◌<◌, ◌≤◌, Bool, true, false, cond, ltb, leb, eqb, ◌&&◌, List, [], ◌∷◌, ◌++◌, length, get_or, drop, map, refl, sym, ap, subst, ◌∙◌, append_assoc, arith, inl, inr}
 use Rattle.std.specs.List.{sum_by, filter, flat_map, range_with_len}
 use Rattle.std.specs.Prelude.{slice_index}
@@ -38,21 +37,30 @@ RisesTo-top top p (n ∷ numbers) rises = let end = RisesTo-top top n numbers ri
 
 -- ---- the bits of an item, number by number
 
-pub blp_of-near : (first n : ℕ) (numbers : List ℕ) → first < n → n ≤ first + 16 → blp_of (n ∷ numbers) first ≡ 2 ^ (n - first - 1) + blp_of numbers first
-blp_of-near first n numbers above within =
-    rw (lt-ltb first n above, le-leb n (first + 16) within) (sum_by-cons (λ (m : ℕ). 2 ^ (m - first - 1)) n (numbers_in_reach numbers first))
+pub in_reach-near : (first n : ℕ) (numbers : List ℕ) → first < n → n ≤ first + 16 → numbers_in_reach (n ∷ numbers) first ≡ n ∷ numbers_in_reach numbers first
+in_reach-near first n numbers above within = rw (lt-ltb first n above, le-leb n (first + 16) within) refl
 
-pub blp_of-beyond : (first n : ℕ) (numbers : List ℕ) → first + 16 < n → blp_of (n ∷ numbers) first ≡ blp_of numbers first
-blp_of-beyond first n numbers beyond = rw (lt-ltb first n (omega arith), lt-leb n (first + 16) beyond) refl
+pub in_reach-beyond : (first n : ℕ) (numbers : List ℕ) → first + 16 < n → numbers_in_reach (n ∷ numbers) first ≡ numbers_in_reach numbers first
+in_reach-beyond first n numbers beyond = rw (lt-ltb first n (omega arith), lt-leb n (first + 16) beyond) refl
+
+-- numbers beyond an item's reach aren't in it
+pub in_reach-far : (top first p : ℕ) (numbers : List ℕ) → first + 16 ≤ p → RisesTo top p numbers → numbers_in_reach numbers first ≡ []
+in_reach-far top first p [] far rises = refl
+in_reach-far top first p (n ∷ numbers) far rises =
+    in_reach-beyond first n numbers (omega (arith, rises.0)) ∙ in_reach-far top first n numbers (omega (arith, rises.0)) rises.1
+
+blp_of-near : (first n : ℕ) (numbers : List ℕ) → first < n → n ≤ first + 16 → blp_of (n ∷ numbers) first ≡ 2 ^ (n - first - 1) + blp_of numbers first
+blp_of-near first n numbers above within =
+    ap (λ (x : List ℕ). sum_by (λ (m : ℕ). 2 ^ (m - first - 1)) x) (in_reach-near first n numbers above within) ∙ sum_by-cons (λ (m : ℕ). 2 ^ (m - first - 1)) n (numbers_in_reach numbers first)
+
+blp_of-beyond : (first n : ℕ) (numbers : List ℕ) → first + 16 < n → blp_of (n ∷ numbers) first ≡ blp_of numbers first
+blp_of-beyond first n numbers beyond = ap (λ (x : List ℕ). sum_by (λ (m : ℕ). 2 ^ (m - first - 1)) x) (in_reach-beyond first n numbers beyond)
 
 pub blp_of-before : (first n : ℕ) (numbers : List ℕ) → n ≤ first → blp_of (n ∷ numbers) first ≡ blp_of numbers first
 blp_of-before first n numbers before = rw (le-ltb first n before) refl
 
--- numbers beyond an item's reach have no bits
-pub blp_of-far : (top first p : ℕ) (numbers : List ℕ) → first + 16 ≤ p → RisesTo top p numbers → blp_of numbers first ≡ 0
-blp_of-far top first p [] far rises = refl
-blp_of-far top first p (n ∷ numbers) far rises =
-    blp_of-beyond first n numbers (omega (arith, rises.0)) ∙ blp_of-far top first n numbers (omega (arith, rises.0)) rises.1
+blp_of-far : (top first p : ℕ) (numbers : List ℕ) → first + 16 ≤ p → RisesTo top p numbers → blp_of numbers first ≡ 0
+blp_of-far top first p numbers far rises = ap (λ (x : List ℕ). sum_by (λ (m : ℕ). 2 ^ (m - first - 1)) x) (in_reach-far top first p numbers far rises)
 
 -- the bits beyond a number in reach fit
 bits_fit : (top first p : ℕ) (numbers : List ℕ) → first ≤ p → p ≤ first + 16 → RisesTo top p numbers → blp_of numbers first + 2 ^ (p - first) ≤ 65536
@@ -85,20 +93,20 @@ later_items first [] = []
 later_items first (n ∷ numbers) = cond (leb n (first + 16)) (later_items first numbers) (item_of numbers n ∷ later_items n numbers)
 
 -- none is above n
-abbrev IsUpTo : ℕ → List ℕ → Type 0
+abbrev pub IsUpTo : ℕ → List ℕ → Type 0
 IsUpTo n [] = Unit {0}
 IsUpTo n (b ∷ before) = (b ≤ n) × IsUpTo n before
 
-IsUpTo-more : (p n : ℕ) (before : List ℕ) → p ≤ n → IsUpTo p before → IsUpTo n (before ++ n ∷ [])
+pub IsUpTo-more : (p n : ℕ) (before : List ℕ) → p ≤ n → IsUpTo p before → IsUpTo n (before ++ n ∷ [])
 IsUpTo-more p n [] later up = (omega arith, tt)
 IsUpTo-more p n (b ∷ before) later up = (omega (arith, up.0), IsUpTo-more p n before later up.1)
 
-IsUpTo-raise : (p n : ℕ) (before : List ℕ) → p ≤ n → IsUpTo p before → IsUpTo n before
+pub IsUpTo-raise : (p n : ℕ) (before : List ℕ) → p ≤ n → IsUpTo p before → IsUpTo n before
 IsUpTo-raise p n [] later up = tt
 IsUpTo-raise p n (b ∷ before) later up = (omega (arith, up.0), IsUpTo-raise p n before later up.1)
 
 -- numbers before an item have no bits in it
-blp_of-after : (first : ℕ) (before numbers : List ℕ) → IsUpTo first before → blp_of (before ++ numbers) first ≡ blp_of numbers first
+pub blp_of-after : (first : ℕ) (before numbers : List ℕ) → IsUpTo first before → blp_of (before ++ numbers) first ≡ blp_of numbers first
 blp_of-after first [] numbers up = refl
 blp_of-after first (b ∷ before) numbers up = blp_of-before first b (before ++ numbers) up.0 ∙ blp_of-after first before numbers up.1
 
@@ -208,6 +216,3 @@ nack-made from media words numbers later items some split made counted =
     ap (λ (k : ℕ). feedback_head FMT_NACK RTPFB k from media ++ flat_map octets_of items) count
     ∙ ap (λ (x : List Item). feedback_head FMT_NACK RTPFB (2 + length (firsts numbers)) from media ++ flat_map octets_of x) same
     ∙ ap (λ (x : List ℕ). feedback_head FMT_NACK RTPFB (2 + length (firsts numbers)) from media ++ x) (octets_of-items numbers (firsts numbers))
-
--- ---- what items name is read of them
-

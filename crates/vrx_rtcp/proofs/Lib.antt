@@ -2,6 +2,7 @@ mod BodyLemmas
 mod CompoundLemmas
 mod FeedbackLemmas
 mod HeaderLemmas
+mod NamedLemmas
 mod NumberLemmas
 mod PacketLemmas
 mod Rows
