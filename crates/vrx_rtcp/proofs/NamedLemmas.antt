@@ -14,7 +14,7 @@ use Rattle.vrx_rtcp.specs.Packet.{Message, Nack, Pli, IsPacket}
 use Rattle.vrx_rtcp.specs.Feedback.{nack_octets, pli_octets, later_firsts, firsts, numbers_in_reach, blp_of, item_octets, items_octets, item_numbers, numbers_named}
 use Rattle.vrx_rtcp.specs.Laws.{IsReadAs}
 use Rattle.vrx_rtcp.proofs.FeedbackLemmas.{RisesTo, rises_to, RisesTo-lower, RisesTo-top, in_reach-near, in_reach-beyond, in_reach-far, blp_of-before, blp_of-after, blp_of-below, IsUpTo, IsUpTo-more, IsUpTo-raise}
-use Rattle.vrx_rtcp.proofs.PacketLemmas.{reads-packet}
+use Rattle.vrx_rtcp.proofs.PacketLemmas.{Reads, reads-packet}
 
 -- ---- the bits of an item, from one place on
 
@@ -195,3 +195,88 @@ named-later top first p before (n ∷ numbers) up rises =
           rw (le-leb n (first + 16) near) (ap (λ (x : List ℕ). numbers_named (octets_at x (later_firsts first numbers))) (sym whole) ∙ named-later top first n (before ++ n ∷ []) numbers next rises.1)
           ∙ sym (ap wire (beyond-near first n numbers near))
     ]
+
+-- numbers that one NACK takes
+pub record AreForOne (numbers : List ℕ) : Type 0 where
+  pub rising : IsStrictlyIncreasing numbers
+  pub near : slice_index numbers (length numbers - 1) ≤ slice_index numbers 0 + NACK_SPAN
+
+rise : (first : ℕ) (later : List ℕ) → AreForOne (first ∷ later) → RisesTo (first + NACK_SPAN) first later
+rise first later are =
+    rises_to (first + NACK_SPAN) first later are.rising (subst (λ (k : ℕ). slice_index (first ∷ later) k ≤ first + NACK_SPAN) (let k : suc (length later) - 1 ≡ length later = omega arith in k) are.near)
+
+-- the items of numbers name just them
+pub named : (numbers : List ℕ) → AreForOne numbers → numbers_named (items_octets numbers) ≡ map (λ n. n % 65536) numbers
+unfolding octets_at
+named [] are = refl
+named (first ∷ later) are =
+    let rises = rise first later are in
+    named-item (first + NACK_SPAN) first [] later tt rises (named-later (first + NACK_SPAN) first first (first ∷ []) later (omega arith, tt) rises)
+
+-- ---- the octets of feedback are one packet
+
+-- items lie at least 17 apart
+later_firsts-few : (top first : ℕ) (numbers : List ℕ) → RisesTo top first numbers → 17 * length (later_firsts first numbers) + first ≤ top
+later_firsts-few top first [] rises = omega (arith, rises)
+later_firsts-few top first (n ∷ numbers) rises =
+    elim (cases_lt (first + 16) n) [
+      | inl far ↦ let rest = later_firsts-few top n numbers rises.1 in rw (lt-leb n (first + 16) far) (omega (arith, rest))
+      | inr near ↦ rw (le-leb n (first + 16) near) (later_firsts-few top first numbers (RisesTo-lower top n first numbers (omega (arith, rises.0)) rises.1))
+    ]
+
+firsts-few : (numbers : List ℕ) → AreForOne numbers → length (firsts numbers) ≤ 121
+firsts-few [] are = omega arith
+firsts-few (first ∷ later) are =
+    let few = later_firsts-few (first + NACK_SPAN) first later (rise first later are) in omega (arith, few)
+
+length-items : (numbers firsts : List ℕ) → length (flat_map (item_octets numbers) firsts) ≡ 4 * length firsts
+length-items numbers [] = refl
+length-items numbers (first ∷ firsts) = let rest = length-items numbers firsts in omega (arith, rest)
+
+-- what is a packet is read to its end
+read_as : (octets : List ℕ) (says : Message) → IsPacket octets says → IsReadAs octets says
+read_as octets says is =
+    let reads = subst (λ (x : List ℕ). Reads x (length octets) says) (append-nil octets) (reads-packet octets [] says is) in
+    record {
+      packet = is;
+      no_fault = reads.no_fault;
+      message = reads.message;
+      size = reads.size;
+      compound = record { spelled = sym (append-nil octets); each = (is, tt) };
+    }
+
+pub nack_reads : (from media : ℕ) (numbers : List ℕ) → from < 2 ^ 32 → media < 2 ^ 32 → AreForOne numbers → IsReadAs (nack_octets from media numbers) (Nack from media (items_octets numbers))
+nack_reads from media numbers from_fits media_fits are =
+    let few = firsts-few numbers are in
+    let long = length-items numbers (firsts numbers) in
+    read_as (nack_octets from media numbers) (Nack from media (items_octets numbers)) (record {
+      padded = false;
+      count = FMT_NACK;
+      kind = RTPFB;
+      words = 2 + length (firsts numbers);
+      content = to_be_bytes w32 from ++ to_be_bytes w32 media ++ items_octets numbers;
+      padding = [];
+      spelled = sym (append-nil (nack_octets from media numbers));
+      measured = omega (arith, long);
+      count_fits = omega arith;
+      words_fit = omega arith;
+      ends = refl;
+      means = (refl, refl, record { spelled = refl; sender_fits = from_fits; media_fits = media_fits });
+    })
+
+pub pli_reads : (from media : ℕ) → from < 2 ^ 32 → media < 2 ^ 32 → IsReadAs (pli_octets from media) (Pli from media)
+pli_reads from media from_fits media_fits =
+    read_as (pli_octets from media) (Pli from media) (record {
+      padded = false;
+      count = FMT_PLI;
+      kind = PSFB;
+      words = 2;
+      content = to_be_bytes w32 from ++ to_be_bytes w32 media;
+      padding = [];
+      spelled = refl;
+      measured = refl;
+      count_fits = omega arith;
+      words_fit = omega arith;
+      ends = refl;
+      means = (refl, refl, [], record { spelled = refl; sender_fits = from_fits; media_fits = media_fits });
+    })
