@@ -361,7 +361,10 @@ fn writes_feedback(rt: HostRuntime) {
         let next = octets.len();
         assert_eq!(rt;
             read_packet(&octets, 0),
-            Ok(Packet { body: Body::Nack(nack), next }),
+            Ok(Packet {
+                body: Body::Nack(nack),
+                next
+            }),
             "{numbers:?}"
         );
     }
