@@ -1,8 +1,8 @@
 //! From missing numbers to the feedback that asks for them.
 
-ghost use Rattle.std.specs.Prelude.{◌≡◌, ◌+◌, ◌-◌, ◌%◌, ◌<◌, ◌≤◌, false, List, [], ◌∷◌, ◌++◌, length, map, slice_index};
+ghost use Rattle.std.specs.Prelude.{◌≡◌, ◌+◌, ◌-◌, ◌%◌, ◌<◌, ◌≤◌, ◌∷◌, ◌++◌, length, map, slice_index};
 ghost use Rattle.std.specs.List.Sorted.{IsStrictlyIncreasing};
-ghost use Rattle.std.specs.Int.{w16, w32, to_be_bytes};
+ghost use Rattle.std.specs.Int.{w16, to_be_bytes};
 ghost use Rattle.vrx_rtcp.specs.declared.types.TheConstants.{NACK_SPAN};
 ghost use Rattle.vrx_rtcp.specs.declared.writing.TheConstants.{MOST_ITEMS, MOST_OCTETS};
 ghost use Rattle.arrayvec.specs.ArrayVec.{array_vec_len};
