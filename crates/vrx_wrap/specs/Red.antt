@@ -8,6 +8,7 @@
 -- +-+-+-+-+-+-+-+-+
 use Rattle.std.specs.Prelude.{◌≡◌, ℕ, ◌<◌, ◌≤◌, nat_lt, if◌then◌else◌, List, [], ◌∷◌, slice_index, Result, Ok, Err}
 use Rattle.vrx_rtp.specs.Packet.{Packet}
+use Rattle.vrx_wrap.specs.declared.red.TheConstants.{BIT_F}
 use Rattle.vrx_wrap.specs.declared.red.RedFault.{RedFault}
 use Rattle.vrx_wrap.specs.declared.red.RedFault.TheVariants.{Empty, MoreBlocks}
 
@@ -27,12 +28,12 @@ pub record IsRed (payload : List ℕ) (block : Block) : Type 0 where
 
 -- F = 1 in the first octet: a further block follows
 abbrev pub HasMore : List ℕ → Type 0
-HasMore payload = 128 ≤ slice_index payload 0
+HasMore payload = BIT_F ≤ slice_index payload 0
 
 -- the block of a payload, or why there isn't one block
 abbrev pub block_of : List ℕ → Result Block RedFault
 block_of [] = Err Empty
-block_of (head ∷ rest) = if nat_lt head 128 then Ok (record { pt = head; rest = rest }) else Err MoreBlocks
+block_of (head ∷ rest) = if nat_lt head BIT_F then Ok (record { pt = head; rest = rest }) else Err MoreBlocks
 
 -- the packet wrapped in RED, under this payload type: its payload is the block
 abbrev pub red_of : ℕ → Packet → Packet
