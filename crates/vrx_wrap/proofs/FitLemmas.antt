@@ -17,7 +17,8 @@ fits-red red_type p small fits = record {
   padding = fits.padding;
 }
 
-pub fits-rtx : (rtx_type rtx_ssrc rtx_seq : ℕ) (p : Packet) → rtx_type < 128 → rtx_ssrc < 2 ^ 32 → rtx_seq < 2 ^ 16 → Fits p → Fits (rtx_of rtx_type rtx_ssrc rtx_seq p)
+pub fits-rtx : (rtx_type rtx_ssrc rtx_seq : ℕ) (p : Packet) → rtx_type < 128
+    → rtx_ssrc < 2 ^ 32 → rtx_seq < 2 ^ 16 → Fits p → Fits (rtx_of rtx_type rtx_ssrc rtx_seq p)
 fits-rtx rtx_type rtx_ssrc rtx_seq p small source number fits = record {
   pt = small;
   seq = number;
@@ -29,5 +30,6 @@ fits-rtx rtx_type rtx_ssrc rtx_seq p small source number fits = record {
 }
 
 -- octets of a packet that fits are read as it, by the laws of packets
-pub spelled-read : SpellsItself → ReadsPackets → (p : Packet) → Fits p → AreOctets (spelled p) → reading (spelled p) ≡ Ok p
+pub spelled-read : SpellsItself → ReadsPackets → (p : Packet) → Fits p
+    → AreOctets (spelled p) → reading (spelled p) ≡ Ok p
 spelled-read spells reads p fits are = (reads (spelled p) p are).1 (spells p fits)

@@ -81,7 +81,8 @@ rtx_empty = refl
 rtx_one : original_of apt (plain 97 9 12 (0 ∷ [])) ≡ Err RtxEmpty
 rtx_one = refl
 
--- 80600009000000000000000c00011000aa: the media type on the source of retransmissions; an empty one has the same fault
+-- 80600009000000000000000c00011000aa: the media type on the source of retransmissions; an empty one has the same
+-- fault
 rtx_media : original_of apt (plain 96 9 12 (0 ∷ 1 ∷ 0x10 ∷ 0 ∷ 0xaa ∷ [])) ≡ Err NoApt
 rtx_media = refl
 

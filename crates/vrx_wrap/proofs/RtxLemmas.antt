@@ -24,7 +24,8 @@ abbrev type_in : ℕ → List (ℕ × ℕ) → Option ℕ
 type_in pt pairs = option_map (λ pair. pair.1) (find (λ pair. pair.0 == pt) pairs)
 
 -- a type that was found is one of a pair
-has-first : (pt t : ℕ) (pair : ℕ × ℕ) (pairs : List (ℕ × ℕ)) (b : Bool) → (pair.0 == pt) ≡ b → (type_in pt pairs ≡ Some t → has pt pairs)
+has-first : (pt t : ℕ) (pair : ℕ × ℕ) (pairs : List (ℕ × ℕ)) (b : Bool) → (pair.0 == pt) ≡ b
+    → (type_in pt pairs ≡ Some t → has pt pairs)
     → option_map (λ x. x.1) (cond b (Some pair) (find (λ x. x.0 == pt) pairs)) ≡ Some t → has pt (pair ∷ pairs)
 has-first pt t pair pairs true is later some = (0, pair, omega arith, refl, eqb-true _ _ is)
 has-first pt t pair pairs false is later some =
@@ -35,25 +36,30 @@ has-found pt t [] some = absurd (none-some t some)
 has-found pt t (pair ∷ pairs) some = has-first pt t pair pairs (pair.0 == pt) refl (has-found pt t pairs) some
 
 -- if none was found, no pair has it
-lacks-first : (pt : ℕ) (pair : ℕ × ℕ) (pairs : List (ℕ × ℕ)) (b : Bool) → (pair.0 == pt) ≡ b → (type_in pt pairs ≡ None → has pt pairs → ⊥)
+lacks-first : (pt : ℕ) (pair : ℕ × ℕ) (pairs : List (ℕ × ℕ)) (b : Bool) → (pair.0 == pt) ≡ b
+    → (type_in pt pairs ≡ None → has pt pairs → ⊥)
     → option_map (λ x. x.1) (cond b (Some pair) (find (λ x. x.0 == pt) pairs)) ≡ None
     → (k : ℕ) (x : ℕ × ℕ) → k < suc (length pairs) → slice_index_or (pair ∷ pairs) k x ≡ x → x.0 ≡ pt → ⊥
 lacks-first pt pair pairs true is later none k x within at same = absurd cc
-lacks-first pt pair pairs false is later none zero x within at same = absurd (eqb-false _ _ is (ap (λ (y : ℕ × ℕ). y.0) at ∙ same))
+lacks-first pt pair pairs false is later none zero x within at same =
+    absurd (eqb-false _ _ is (ap (λ (y : ℕ × ℕ). y.0) at ∙ same))
 lacks-first pt pair pairs false is later none (suc k) x within at same = later none (k, x, omega arith, at, same)
 
 lacks-found : (pt : ℕ) (pairs : List (ℕ × ℕ)) → type_in pt pairs ≡ None → has pt pairs → ⊥
 lacks-found pt [] none found = absurd (omega arith)
-lacks-found pt (pair ∷ pairs) none found = lacks-first pt pair pairs (pair.0 == pt) refl (lacks-found pt pairs) none found.0 found.1 found.2 found.3 found.4
+lacks-found pt (pair ∷ pairs) none found =
+    lacks-first pt pair pairs (pair.0 == pt) refl (lacks-found pt pairs) none found.0 found.1 found.2 found.3 found.4
 
 -- ---- when there is no original
 
 -- an original that is cut off isn't of an unknown type, and its payload is short
-with-no_apt : (apt : Apt) (p : Packet) (pt : ℕ) (found : Option (ℕ × List ℕ)) → original_with apt p pt found ≡ Err NoApt → ⊥
+with-no_apt : (apt : Apt) (p : Packet) (pt : ℕ) (found : Option (ℕ × List ℕ))
+    → original_with apt p pt found ≡ Err NoApt → ⊥
 with-no_apt apt p pt None e = absurd cc
 with-no_apt apt p pt (Some x) e = absurd cc
 
-with-empty : (apt : Apt) (p : Packet) (pt : ℕ) (found : Option (ℕ × List ℕ)) → original_with apt p pt found ≡ Err RtxEmpty → found ≡ None
+with-empty : (apt : Apt) (p : Packet) (pt : ℕ) (found : Option (ℕ × List ℕ))
+    → original_with apt p pt found ≡ Err RtxEmpty → found ≡ None
 with-empty apt p pt None e = refl
 with-empty apt p pt (Some x) e = absurd cc
 
@@ -67,7 +73,8 @@ short-none [] short = refl
 short-none (high ∷ []) short = refl
 short-none (high ∷ low ∷ rest) short = absurd (omega arith)
 
-no_apt-typed : (apt : Apt) (p : Packet) (t : Option ℕ) → original_type apt p.pt ≡ t → (original_typed apt p t ≡ Err NoApt) ↔ (IsRtxType apt p.pt → ⊥)
+no_apt-typed : (apt : Apt) (p : Packet) (t : Option ℕ) → original_type apt p.pt ≡ t
+    → (original_typed apt p t ≡ Err NoApt) ↔ (IsRtxType apt p.pt → ⊥)
 no_apt-typed apt p None is = (λ e. lacks-found p.pt apt.pairs is, λ no. refl)
 no_apt-typed apt p (Some pt) is = (
   λ e. absurd (with-no_apt apt p pt (number_at p.payload) e),
@@ -110,16 +117,21 @@ two_are : (a b : ℕ) → a < 256 → b < 256 → to_be_bytes w16 (from_be_bytes
 two_are a b a_fits b_fits = be_bytes_2 (a ∷ b ∷ []) _ refl (two_fit a b a_fits b_fits) refl
 
 -- the payload of a number and what is after it
-numbered-at : (payload : List ℕ) (seq : ℕ) (rest : List ℕ) → AreOctets payload → number_at payload ≡ Some (seq, rest) → (seq < 2 ^ 16) × (payload ≡ numbered seq rest)
+numbered-at : (payload : List ℕ) (seq : ℕ) (rest : List ℕ) → AreOctets payload
+    → number_at payload ≡ Some (seq, rest) → (seq < 2 ^ 16) × (payload ≡ numbered seq rest)
 numbered-at [] seq rest are e = absurd cc
 numbered-at (high ∷ []) seq rest are e = absurd cc
 numbered-at (high ∷ low ∷ octets) seq rest are e =
     let high_fits : high < 256 = are 0 0 (omega arith) in
     let low_fits : low < 256 = are 1 0 (omega arith) in
     let parts = some_pair_parts (from_be_bytes w16 (high ∷ low ∷ [])) seq octets rest e in
+    let spelled : numbered seq rest ≡ high ∷ low ∷ octets =
+    ap (λ (n : ℕ). to_be_bytes w16 n ++ rest) (sym parts.0)
+    ∙ ap (λ (t : List ℕ). t ++ rest) (two_are high low high_fits low_fits)
+    ∙ ap (λ (t : List ℕ). high ∷ low ∷ t) (sym parts.1) in
     let fits : from_be_bytes w16 (high ∷ low ∷ []) < 2 ^ 16 = omega arith in (
       subst (λ (n : ℕ). n < 2 ^ 16) parts.0 fits,
-      sym (ap (λ (n : ℕ). to_be_bytes w16 n ++ rest) (sym parts.0) ∙ ap (λ (t : List ℕ). t ++ rest) (two_are high low high_fits low_fits) ∙ ap (λ (t : List ℕ). high ∷ low ∷ t) (sym parts.1)),
+      sym spelled,
     )
 
 at-numbered : (seq : ℕ) (payload : List ℕ) → seq < 2 ^ 16 → number_at (numbered seq payload) ≡ Some (seq, payload)
@@ -131,7 +143,8 @@ read_as p = Ok p
 read-same : (p o : Packet) → read_as p ≡ read_as o → p ≡ o
 read-same p o e = cc
 
-original-with : (apt : Apt) (rtx o : Packet) (pt : ℕ) (found : Option (ℕ × List ℕ)) → original_type apt rtx.pt ≡ Some pt → number_at rtx.payload ≡ found → AreOctets rtx.payload
+original-with : (apt : Apt) (rtx o : Packet) (pt : ℕ) (found : Option (ℕ × List ℕ))
+    → original_type apt rtx.pt ≡ Some pt → number_at rtx.payload ≡ found → AreOctets rtx.payload
     → original_with apt rtx pt found ≡ Ok o → IsOriginal apt rtx o
 original-with apt rtx o pt None type is are e = absurd cc
 original-with apt rtx o pt (Some (seq, payload)) type is are e =
@@ -153,13 +166,16 @@ original-typed : (apt : Apt) (rtx o : Packet) (t : Option ℕ) → original_type
 original-typed apt rtx o None type are e = absurd cc
 original-typed apt rtx o (Some pt) type are e = original-with apt rtx o pt (number_at rtx.payload) type refl are e
 
-pub original-of : (apt : Apt) (rtx o : Packet) → AreOctets rtx.payload → original_of apt rtx ≡ Ok o → IsOriginal apt rtx o
+pub original-of : (apt : Apt) (rtx o : Packet) → AreOctets rtx.payload
+    → original_of apt rtx ≡ Ok o → IsOriginal apt rtx o
 original-of apt rtx o are e = original-typed apt rtx o (original_type apt rtx.pt) refl are e
 
 -- a packet with its own fields is the packet
-same_packet : (rtx o : Packet) (ssrc : ℕ) → o.ssrc ≡ ssrc → o.marker ≡ rtx.marker → o.ts ≡ rtx.ts → o.csrc ≡ rtx.csrc → o.extension ≡ rtx.extension → o.padding ≡ 0
+same_packet : (rtx o : Packet) (ssrc : ℕ)
+    → o.ssrc ≡ ssrc → o.marker ≡ rtx.marker → o.ts ≡ rtx.ts → o.csrc ≡ rtx.csrc → o.extension ≡ rtx.extension → o.padding ≡ 0
     → packet_as rtx o.pt o.seq ssrc o.payload ≡ o
-same_packet rtx o ssrc source marker ts csrc extension padding = rw (← source, ← marker, ← ts, ← csrc, ← extension, ← padding) refl
+same_packet rtx o ssrc source marker ts csrc extension padding =
+    rw (← source, ← marker, ← ts, ← csrc, ← extension, ← padding) refl
 
 pub of-original : (apt : Apt) (rtx o : Packet) → IsOriginal apt rtx o → original_of apt rtx ≡ Ok o
 of-original apt rtx o is =
@@ -167,7 +183,7 @@ of-original apt rtx o is =
     ∙ ap (original_with apt rtx o.pt) (ap number_at is.payload ∙ at-numbered o.seq o.payload is.number)
     ∙ ap read_as (same_packet rtx o apt.media_ssrc is.source is.marker is.ts is.csrc is.extension is.padding)
 
-pub original-read : (apt : Apt) (p : Packet) (r : Result RtpView RtxFault) → OnOk r (AreOctets p.payload) → view_original r ≡ original_of apt p
-    → IfOk r (λ v. IsOriginal apt p (view v))
+pub original-read : (apt : Apt) (p : Packet) (r : Result RtpView RtxFault) → OnOk r (AreOctets p.payload)
+    → view_original r ≡ original_of apt p → IfOk r (λ v. IsOriginal apt p (view v))
 original-read apt p (Ok v) are reads = original-of apt p (view v) are (sym reads)
 original-read apt p (Err e) are reads = tt

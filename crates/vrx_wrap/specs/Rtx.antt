@@ -1,5 +1,5 @@
--- Retransmissions (RFC 4588 4): packets of their own type, source and numbers, whose payload says which packet is sent
--- again.
+-- Retransmissions (RFC 4588 4): packets of their own type, source and numbers, whose payload says which packet is
+-- sent again.
 --
 --  0                   1
 --  0 1 2 3 4 5 6 7 8 9 0 1 2 3 4 5

@@ -18,8 +18,8 @@
 //! ```
 //!
 //! [`red_read`] and [`rtx_read`] take a packet out, and take no memory. [`red_wrap`] and [`rtx_wrap`] undo them.
-//! `specs/Red.antt` and `specs/Rtx.antt` have the definitions, on packets as `vrx_rtp` defines them. [`one_block`] and
-//! [`one_original`] have the laws.
+//! `specs/Red.antt` and `specs/Rtx.antt` have the definitions, on packets as `vrx_rtp` defines them.
+//! [`one_block`] and [`one_original`] have the laws.
 #![tactic(auto)]
 
 mod apt;

@@ -59,7 +59,7 @@ fn original<'a>(view: &RtpView<'a>, apt: &Apt) -> Result<RtpView<'a>, RtxFault>
 /// The original packet of a retransmission (RFC 4588 4), seen where the retransmission lies. It takes no memory.
 ///
 /// It has the payload type that the retransmission's stands for, the media SSRC, and the number and the payload that
-/// the retransmission's payload says. Marker, timestamp, sources and extension are the retransmission's, and it has no
+/// the retransmission's payload says. Marker, timestamp, sources and extension are the retransmission's. It has no
 /// padding.
 pub fn rtx_read<'a>(view: &RtpView<'a>, apt: &Apt) -> Result<RtpView<'a>, RtxFault>
     // What is read, seen as a packet, wherever it lies in memory.
@@ -89,8 +89,8 @@ fn numbered_payload(alloc: Global, seq: u16, payload: &[u8]) -> Result<Vec<u8>, 
 }
 
 /// The datagram of a retransmission of a packet (RFC 4588 4), under a payload type, an SSRC and a number of its own.
-/// Padding isn't retransmitted. `csrc` and the extension's words are whole words of four octets, at most 15 and 65,535
-/// of them.
+/// Padding isn't retransmitted. The type has 7 bits. `csrc` and the extension's words are whole words of four octets,
+/// at most 15 and 65,535 of them.
 pub fn rtx_wrap(
     alloc: Global,
     view: &RtpView<'_>,

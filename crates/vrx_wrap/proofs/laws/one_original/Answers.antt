@@ -9,4 +9,5 @@ returns-clause-one c apt rtx original are = (original-of apt rtx original are, o
 
 pub returns-clause-octets : goal.returns-clause-octets
 returns-clause-octets c rtx_type rtx_ssrc rtx_seq p small source number fits are =
-    spelled-read c.one_reading.ensures.spelled_packet c.one_reading.ensures.read_packet (rtx_of rtx_type rtx_ssrc rtx_seq p) (fits-rtx rtx_type rtx_ssrc rtx_seq p small source number fits) are
+    spelled-read c.one_reading.ensures.spelled_packet c.one_reading.ensures.read_packet
+    (rtx_of rtx_type rtx_ssrc rtx_seq p) (fits-rtx rtx_type rtx_ssrc rtx_seq p small source number fits) are
