@@ -12,7 +12,7 @@ use Rattle.vrx_rtp.specs.View.{view}
 use Rattle.vrx_rtp.specs.declared.rtp_view.RtpView.{RtpView}
 use Rattle.vrx_wrap.specs.declared.rtx.RtxFault.{RtxFault}
 use Rattle.vrx_wrap.specs.declared.rtx.RtxFault.TheVariants.{NoApt, RtxEmpty}
-use Rattle.vrx_wrap.specs.Rtx.{Apt, IsRtxType, original_type, number_at, numbered, IsOriginal, packet_as, original_with, original_typed, original_of}
+use Rattle.vrx_wrap.specs.Rtx.{Apt, IsRtxType, original_type, number_at, rtx_payload, IsOriginal, packet_as, original_with, original_typed, original_of}
 use Rattle.vrx_wrap.specs.View.{view_original}
 
 -- ---- the type that a type of retransmissions stands for
@@ -117,15 +117,15 @@ two_are : (a b : ℕ) → a < 256 → b < 256 → to_be_bytes w16 (from_be_bytes
 two_are a b a_fits b_fits = be_bytes_2 (a ∷ b ∷ []) _ refl (two_fit a b a_fits b_fits) refl
 
 -- the payload of a number and what is after it
-numbered-at : (payload : List ℕ) (seq : ℕ) (rest : List ℕ) → AreOctets payload
-    → number_at payload ≡ Some (seq, rest) → (seq < 2 ^ 16) × (payload ≡ numbered seq rest)
-numbered-at [] seq rest are e = absurd cc
-numbered-at (high ∷ []) seq rest are e = absurd cc
-numbered-at (high ∷ low ∷ octets) seq rest are e =
+parts-at : (payload : List ℕ) (seq : ℕ) (rest : List ℕ) → AreOctets payload
+    → number_at payload ≡ Some (seq, rest) → (seq < 2 ^ 16) × (payload ≡ rtx_payload seq rest)
+parts-at [] seq rest are e = absurd cc
+parts-at (high ∷ []) seq rest are e = absurd cc
+parts-at (high ∷ low ∷ octets) seq rest are e =
     let high_fits : high < 256 = are 0 0 (omega arith) in
     let low_fits : low < 256 = are 1 0 (omega arith) in
     let parts = some_pair_parts (from_be_bytes w16 (high ∷ low ∷ [])) seq octets rest e in
-    let spelled : numbered seq rest ≡ high ∷ low ∷ octets =
+    let spelled : rtx_payload seq rest ≡ high ∷ low ∷ octets =
     ap (λ (n : ℕ). to_be_bytes w16 n ++ rest) (sym parts.0)
     ∙ ap (λ (t : List ℕ). t ++ rest) (two_are high low high_fits low_fits)
     ∙ ap (λ (t : List ℕ). high ∷ low ∷ t) (sym parts.1) in
@@ -134,8 +134,8 @@ numbered-at (high ∷ low ∷ octets) seq rest are e =
       sym spelled,
     )
 
-at-numbered : (seq : ℕ) (payload : List ℕ) → seq < 2 ^ 16 → number_at (numbered seq payload) ≡ Some (seq, payload)
-at-numbered seq payload fits = ap (λ (n : ℕ). Some (n, payload)) (from_be_bytes-to_be_bytes_2 seq fits)
+at-rtx_payload : (seq : ℕ) (payload : List ℕ) → seq < 2 ^ 16 → number_at (rtx_payload seq payload) ≡ Some (seq, payload)
+at-rtx_payload seq payload fits = ap (λ (n : ℕ). Some (n, payload)) (from_be_bytes-to_be_bytes_2 seq fits)
 
 abbrev read_as : Packet → Result Packet RtxFault
 read_as p = Ok p
@@ -148,7 +148,7 @@ original-with : (apt : Apt) (rtx o : Packet) (pt : ℕ) (found : Option (ℕ × 
     → original_with apt rtx pt found ≡ Ok o → IsOriginal apt rtx o
 original-with apt rtx o pt None type is are e = absurd cc
 original-with apt rtx o pt (Some (seq, payload)) type is are e =
-    let spelled = numbered-at rtx.payload seq payload are is in
+    let spelled = parts-at rtx.payload seq payload are is in
     subst (λ (x : Packet). IsOriginal apt rtx x) (read-same (packet_as rtx pt seq apt.media_ssrc payload) o e) (record {
       type_of = type;
       source = refl;
@@ -180,7 +180,7 @@ same_packet rtx o ssrc source marker ts csrc extension padding =
 pub of-original : (apt : Apt) (rtx o : Packet) → IsOriginal apt rtx o → original_of apt rtx ≡ Ok o
 of-original apt rtx o is =
     ap (original_typed apt rtx) is.type_of
-    ∙ ap (original_with apt rtx o.pt) (ap number_at is.payload ∙ at-numbered o.seq o.payload is.number)
+    ∙ ap (original_with apt rtx o.pt) (ap number_at is.payload ∙ at-rtx_payload o.seq o.payload is.number)
     ∙ ap read_as (same_packet rtx o apt.media_ssrc is.source is.marker is.ts is.csrc is.extension is.padding)
 
 pub original-read : (apt : Apt) (p : Packet) (r : Result RtpView RtxFault) → OnOk r (AreOctets p.payload)

@@ -3,7 +3,7 @@ use Rattle.std.specs.Prelude.{◌≡◌, ◌↔◌, ℕ, ◌^◌, ◌<◌, List,
 use Rattle.vrx_rtp.specs.Packet.{Packet, Fits, AreOctets, spelled}
 use Rattle.vrx_rtp.specs.Reading.{reading}
 use Rattle.vrx_wrap.specs.Red.{Block, IsRed, block_of, red_of}
-use Rattle.vrx_wrap.specs.Rtx.{Apt, IsOriginal, StandsFor, original_of, rtx_of, unpadded}
+use Rattle.vrx_wrap.specs.Rtx.{Apt, IsOriginal, StandsFor, original_of, rtx_of, unpadded_packet}
 
 -- the block of a payload is the one that the payload has the form of
 abbrev pub HasOneBlock : Type 0
@@ -30,7 +30,7 @@ HasOneOriginal = (apt : Apt) (rtx original : Packet) → AreOctets rtx.payload �
 -- the original of a packet's retransmission is the packet without padding
 abbrev pub ReadsRtxAgain : Type 0
 ReadsRtxAgain = (apt : Apt) (rtx_type rtx_ssrc rtx_seq : ℕ) (p : Packet) → p.seq < 2 ^ 16 → StandsFor apt rtx_type p →
-    original_of apt (rtx_of rtx_type rtx_ssrc rtx_seq p) ≡ Ok (unpadded p)
+    original_of apt (rtx_of rtx_type rtx_ssrc rtx_seq p) ≡ Ok (unpadded_packet p)
 
 -- the same of a retransmission: it fits its octets, and these are read as it
 abbrev pub FitsRtx : Type 0

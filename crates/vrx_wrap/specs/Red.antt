@@ -18,13 +18,13 @@ pub record Block : Type 0 where
   pub rest : List ℕ
 
 -- the payload that carries a block of this type
-abbrev pub red_octets : ℕ → List ℕ → List ℕ
-red_octets pt rest = pt ∷ rest
+abbrev pub red_payload : ℕ → List ℕ → List ℕ
+red_payload pt rest = pt ∷ rest
 
 -- THE FORM: the payload carries this block, and the type fits below F = 0
 pub record IsRed (payload : List ℕ) (block : Block) : Type 0 where
   pub fits : block.pt < 128
-  pub spelled : payload ≡ red_octets block.pt block.rest
+  pub spelled : payload ≡ red_payload block.pt block.rest
 
 -- F = 1 in the first octet: a further block follows
 abbrev pub HasMore : List ℕ → Type 0
@@ -45,6 +45,6 @@ red_of red_type p = record {
   ssrc = p.ssrc;
   csrc = p.csrc;
   extension = p.extension;
-  payload = red_octets p.pt p.payload;
+  payload = red_payload p.pt p.payload;
   padding = p.padding;
 }

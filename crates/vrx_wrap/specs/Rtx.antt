@@ -30,16 +30,16 @@ IsRtxType apt pt = Any (λ pair. pair.0 ≡ pt) apt.pairs
 abbrev pub original_type : Apt → ℕ → Option ℕ
 original_type apt pt = option_map (λ pair. pair.1) (find (λ pair. pair.0 == pt) apt.pairs)
 
--- a packet's number, and its payload after it
-abbrev pub numbered : ℕ → List ℕ → List ℕ
-numbered seq payload = to_be_bytes w16 seq ++ payload
+-- the payload of a retransmission: the original's number, and its payload after it
+abbrev pub rtx_payload : ℕ → List ℕ → List ℕ
+rtx_payload seq payload = to_be_bytes w16 seq ++ payload
 
 -- THE FORM: one packet is the retransmission of the other, which has no padding
 pub record IsOriginal (apt : Apt) (rtx original : Packet) : Type 0 where
   pub type_of : original_type apt rtx.pt ≡ Some original.pt
   pub source : original.ssrc ≡ apt.media_ssrc
   pub number : original.seq < 2 ^ 16
-  pub payload : rtx.payload ≡ numbered original.seq original.payload
+  pub payload : rtx.payload ≡ rtx_payload original.seq original.payload
   pub marker : original.marker ≡ rtx.marker
   pub ts : original.ts ≡ rtx.ts
   pub csrc : original.csrc ≡ rtx.csrc
@@ -61,14 +61,14 @@ packet_as p pt seq ssrc payload = record {
 }
 
 -- the packet without padding
-abbrev pub unpadded : Packet → Packet
-unpadded p = packet_as p p.pt p.seq p.ssrc p.payload
+abbrev pub unpadded_packet : Packet → Packet
+unpadded_packet p = packet_as p p.pt p.seq p.ssrc p.payload
 
 -- the retransmission of a packet, under this type, source and number
 abbrev pub rtx_of : ℕ → ℕ → ℕ → Packet → Packet
-rtx_of rtx_type rtx_ssrc rtx_seq p = packet_as p rtx_type rtx_seq rtx_ssrc (numbered p.seq p.payload)
+rtx_of rtx_type rtx_ssrc rtx_seq p = packet_as p rtx_type rtx_seq rtx_ssrc (rtx_payload p.seq p.payload)
 
--- the number at the front of a payload, and what is after it
+-- the original's number at the front of a payload, and what is after it
 abbrev pub number_at : List ℕ → Option (ℕ × List ℕ)
 number_at (high ∷ low ∷ rest) = Some (from_be_bytes w16 (high ∷ low ∷ []), rest)
 number_at octets = None

@@ -1,6 +1,6 @@
 //! Which payload types retransmissions have.
 
-ghost use Rattle.std.specs.Prelude.{◌≡◌, ◌==◌};
+ghost use Rattle.std.specs.Prelude.{◌≡◌};
 ghost use Rattle.vrx_wrap.specs.Rtx.{original_type as original_type_of};
 ghost use Rattle.vrx_wrap.specs.View.{view_apt};
 

@@ -1,7 +1,7 @@
 //! RED with one block (RFC 2198 3).
 
 ghost use Rattle.std.specs.Prelude.{◌≡◌, ◌↔◌, ◌<◌, [], Ok, IfOk, IsOkAnd, IsErrOf};
-ghost use Rattle.vrx_wrap.specs.Red.{Block as BlockOf, IsRed, HasMore, red_octets, block_of};
+ghost use Rattle.vrx_wrap.specs.Red.{Block as BlockOf, IsRed, HasMore, red_payload, block_of};
 ghost use Rattle.vrx_wrap.specs.View.{view_block, view_red};
 
 use std::alloc::Global;
@@ -58,7 +58,7 @@ pub fn red_read(payload: &[u8]) -> Result<Block<'_>, RedFault>
 /// The RED payload whose one block is `rest`, of payload type `pt` (RFC 2198 3).
 pub fn red_wrap(alloc: Global, pt: u8, rest: &[u8]) -> Result<Vec<u8>, NoMemory>
     requires pt { pt < 128 }
-    ensures spelled { IfOk result (λ payload. payload.items ≡ red_octets pt rest.now) }
+    ensures spelled { IfOk result (λ payload. payload.items ≡ red_payload pt rest.now) }
     // Reading it gives the block again.
     ensures again { IfOk result (λ payload. block_of payload.items ≡ Ok (record { pt = pt; rest = rest.now })) }
 {

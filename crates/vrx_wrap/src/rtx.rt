@@ -1,11 +1,11 @@
 //! Retransmissions (RFC 4588 4).
 
-ghost use Rattle.std.specs.Prelude.{◌≡◌, ◌↔◌, ℕ, ◌^◌, ◌<◌, length, Ok, IfOk, OnOk, IfSome, IsOkAnd, IsErrOf};
+ghost use Rattle.std.specs.Prelude.{◌≡◌, ◌↔◌, ◌<◌, length, Ok, IfOk, OnOk, IfSome, IsOkAnd, IsErrOf};
 ghost use Rattle.std.specs.Option.{option_map};
 ghost use Rattle.vrx_rtp.specs.Packet.{Packet, IsPacket, AreOctets, AreWords, spelled};
 ghost use Rattle.vrx_rtp.specs.Reading.{reading};
 ghost use Rattle.vrx_rtp.specs.View.{view as packet_of};
-ghost use Rattle.vrx_wrap.specs.Rtx.{Apt as AptOf, IsOriginal, IsRtxType, StandsFor, number_at, numbered, original_of, rtx_of, unpadded};
+ghost use Rattle.vrx_wrap.specs.Rtx.{Apt as AptOf, IsOriginal, IsRtxType, StandsFor, number_at, rtx_payload, original_of, rtx_of, unpadded_packet};
 ghost use Rattle.vrx_wrap.specs.View.{view_apt, view_original};
 
 use crate::apt::{Apt, original_type};
@@ -20,7 +20,7 @@ pub enum RtxFault {
     #[error("the payload type isn't one of retransmissions")]
     NoApt,
     /// Its payload has fewer than the two octets of the original's number.
-    #[error("the retransmission has no original")]
+    #[error("the retransmission is cut off before the original's payload")]
     RtxEmpty,
 }
 
@@ -80,7 +80,7 @@ pub fn rtx_read<'a>(view: &RtpView<'a>, apt: &Apt) -> Result<RtpView<'a>, RtxFau
 
 /// A sequence number, and a payload after it.
 fn numbered_payload(alloc: Global, seq: u16, payload: &[u8]) -> Result<Vec<u8>, NoMemory>
-    ensures octets { IfOk result (λ out. out.items ≡ numbered seq payload.now) }
+    ensures octets { IfOk result (λ out. out.items ≡ rtx_payload seq payload.now) }
 {
     let mut out = Vec::new(alloc);
     out.extend_from_slice(&seq.to_be_bytes())?;
@@ -111,7 +111,7 @@ pub fn rtx_wrap(
     // And the original of that is the packet again, without padding.
     ensures again { (apt : AptOf) → StandsFor apt rtx_type (packet_of view.now) →
         IfOk result (λ datagram. IsOkAnd (reading datagram.items)
-        (λ p. original_of apt p ≡ Ok (unpadded (packet_of view.now)))) }
+        (λ p. original_of apt p ≡ Ok (unpadded_packet (packet_of view.now)))) }
 {
     let payload = numbered_payload(alloc, view.seq, view.payload)?;
     write(
