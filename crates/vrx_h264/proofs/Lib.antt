@@ -1,4 +1,5 @@
 mod AccessUnitLemmas
 mod PayloadLemmas
+mod Rows
 mod UnitsLemmas
 mod WrittenLemmas

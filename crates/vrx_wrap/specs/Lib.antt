@@ -1,0 +1,4 @@
+pub mod Laws
+pub mod Red
+pub mod Rtx
+pub mod View
