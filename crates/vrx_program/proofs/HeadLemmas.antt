@@ -3,11 +3,11 @@ use Rattle.std.proofs.Common.{◌≡◌, ◌⊎◌, ◌≤◌, ℕ, length, true
 use Rattle.std.specs.Prelude.{Option, Some, None}
 use Rattle.vrx_io.specs.Source.{IsSpent}
 use Rattle.vrx_io.specs.Sink.{extended}
-use Rattle.vrx_text.specs.Line.{lines_of, longest_line}
-use Rattle.vrx_text.specs.Ahead.{ahead}
-use Rattle.vrx_text.specs.Reader.{Reader, opening, Passes, MayFollow, HasNoHead, HasNoFeed, IsHead, IsHeadFault}
-use Rattle.vrx_text.specs.declared.lines.HeadFault.TheVariants as heads
-use Rattle.vrx_text.specs.Joins.{LinesJoin, ReadingsJoin}
+use Rattle.vrx_capture.specs.Line.{lines_of, longest_line}
+use Rattle.vrx_capture.specs.Ahead.{ahead}
+use Rattle.vrx_capture.specs.Reader.{Reader, opening, Passes, MayFollow, HasNoHead, HasNoFeed, IsHead, IsHeadFault}
+use Rattle.vrx_capture.specs.declared.lines.HeadFault.TheVariants as heads
+use Rattle.vrx_capture.specs.Joins.{LinesJoin, ReadingsJoin}
 use Rattle.vrx_text.specs.Transcript.{error_line}
 use Rattle.vrx_text.specs.declared.transcript.ErrorReason.{ErrorReason}
 use Rattle.vrx_text.specs.declared.transcript.ErrorReason.TheVariants as errors

@@ -2,7 +2,7 @@
 
 ghost use Rattle.std.specs.Prelude.{◌≡◌, ◌≢◌, ◌+◌, ◌≤◌, ℕ, List, Option, Some, None, IfNone, IfOk, IfErr, MatchOption, MatchResult};
 ghost use Rattle.vrx_core.specs.declared.event.Event.{Event};
-ghost use Rattle.vrx_text.specs.Reader.{opening};
+ghost use Rattle.vrx_capture.specs.Reader.{opening};
 ghost use Rattle.vrx_text.specs.Transcript.{error_line};
 ghost use Rattle.vrx_program.specs.Counts.{IsCounted};
 ghost use Rattle.vrx_program.specs.Ends.{EndsBadly};

@@ -2,7 +2,7 @@
 
 ghost use Rattle.std.specs.Prelude.{◌≡◌, ◌≢◌, ◌⊎◌, ◌+◌, ◌≤◌, ⊤, length, Some, None, IfOk, MatchOption};
 ghost use Rattle.vrx_core.specs.machine.SettingsFault.{fault_of as fault_of_settings};
-ghost use Rattle.vrx_text.specs.Line.{longest_line};
+ghost use Rattle.vrx_capture.specs.Line.{longest_line};
 ghost use Rattle.vrx_program.specs.Inspect.{is_right, is_head, inspecting, inspected};
 
 use crate::job::{Job, Unanswered};

@@ -2,7 +2,7 @@
 
 ghost use Rattle.std.specs.Prelude.{◌≡◌, ◌+◌, ◌<◌, ◌≤◌, ℕ, List, [], ◌∷◌, Option, Some, None, MatchResult, IfOk, IfErr, OnOk, length};
 ghost use Rattle.vrx_core.specs.declared.event.Event.{Event};
-ghost use Rattle.vrx_text.specs.Line.{longest_line};
+ghost use Rattle.vrx_capture.specs.Line.{longest_line};
 ghost use Rattle.vrx_program.specs.Outcome.{Outcome};
 ghost use Rattle.vrx_program.specs.Job.{Answering, Begins, IsRefused, IfRefused, most_events};
 ghost use Rattle.vrx_program.specs.Heads.{RefusesHeads};

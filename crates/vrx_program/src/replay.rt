@@ -6,7 +6,7 @@ ghost use Rattle.vrx_core.specs.machine.SettingsFault.{fault_of};
 ghost use Rattle.vrx_core.specs.relation.StandsFor.{StandsFor};
 ghost use Rattle.vrx_core.specs.declared.event.Event.{Event};
 ghost use Rattle.vrx_text.specs.Transcript.{text_of};
-ghost use Rattle.vrx_text.specs.declared.settings_line.CodecName.{CodecName};
+ghost use Rattle.vrx_capture.specs.declared.settings_line.CodecName.{CodecName};
 ghost use Rattle.vrx_program.specs.Job.{IfRefused, most_events};
 ghost use Rattle.vrx_program.specs.Replay.{refuses_tick, replayed, hindrance_of, taken};
 ghost use Rattle.vrx_program.specs.Replays.{replaying_by, HasReplayed, replayed_count};

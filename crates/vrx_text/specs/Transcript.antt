@@ -17,8 +17,8 @@ use Rattle.vrx_core.specs.declared.reply.Frame.{Frame}
 use Rattle.vrx_core.specs.declared.reply.Pulled.{Pulled}
 use Rattle.vrx_core.specs.declared.reply.Pulled.TheVariants as pulls
 use Rattle.vrx_core.specs.declared.reply.Handled.{Handled}
-use Rattle.vrx_text.specs.declared.line.LineReason.{LineReason}
-use Rattle.vrx_text.specs.declared.line.LineReason.TheVariants.{Lines, Long, Kind, Events, Moment, End, Hex}
+use Rattle.vrx_capture.specs.declared.line.LineReason.{LineReason}
+use Rattle.vrx_capture.specs.declared.line.LineReason.TheVariants.{Lines, Long, Kind, Events, Moment, End, Hex}
 use Rattle.vrx_text.specs.declared.transcript.ErrorReason.{ErrorReason}
 use Rattle.vrx_text.specs.declared.transcript.ErrorReason.TheVariants.{Settings as OfSettings, Later, Line}
 

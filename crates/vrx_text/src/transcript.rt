@@ -7,8 +7,8 @@ ghost use Rattle.hex.specs.Hex.{encode_lower};
 ghost use Rattle.vrx_core.specs.machine.Machine.{ToDatagram, ToTick, ToPull};
 ghost use Rattle.vrx_text.specs.Transcript.{reason_text, kind_text, line_feed, what_text as what_text_of, repaired_line as repaired_line_of, repaired_text, nack_text, pli_text, feedback_text, frame_text, text_of, line_reason_text, error_reason_text, error_line};
 
-use crate::line::LineReason;
 use std::alloc::Global;
+use vrx_capture::LineReason;
 use vrx_core::{Frame, Handled, Pulled, Reason, What};
 use vrx_num::NoMemory;
 use vrx_rtcp::Feedback;
