@@ -4,7 +4,7 @@ use Rattle.std.proofs.lemmas.List.{take-append-drop}
 use Rattle.vrx_io.specs.Source.{Gives, IsSpent}
 use Rattle.vrx_capture.specs.Ahead.{ahead}
 
--- the bytes that a read gave lie ahead of what is left behind it
+-- the bytes that a read gave lie ahead of what is left after it
 pub ahead-gives : (before after : Option (List ℕ)) (n : ℕ) (buf : List ℕ) → Gives before after n buf → is_some after ≡ is_some before → before ≡ ahead (take n buf) after
 unfolding ahead
 ahead-gives None None n buf gives tells = refl
@@ -23,7 +23,7 @@ unfolding ahead
 ahead-none None = refl
 ahead-none (Some rest) = refl
 
--- where nothing lies ahead, nothing is left
+-- if nothing lies ahead, nothing is left
 pub IsSpent-ahead : (piece : List ℕ) (left : Option (List ℕ)) → IsSpent (ahead piece left) → IsSpent left
 unfolding ahead
 IsSpent-ahead piece None spent = tt
@@ -33,7 +33,7 @@ IsSpent-ahead piece (Some rest) spent = right_none piece rest spent
     right_none [] ys none = none
     right_none (x ∷ xs) ys none = cc none
 
--- a source that tells what it has left tells it after octets were read of it, and no other does
+-- a source that reports what it has left reports it after octets were read of it, and no other does
 pub tells_still : (read : List ℕ) (before after : Option (List ℕ)) → before ≡ ahead read after → is_some after ≡ is_some before
 unfolding ahead
 tells_still read before None source = ap is_some (sym source)

@@ -16,7 +16,7 @@ bind_some (Some x) f y h = (x, refl, h)
 pub same_value : {A : Type 0} (x y : A) → Some x ≡ Some y → x ≡ y
 same_value x y h = ap (λ o. unwrap_or o x) h
 
--- ---- what stands behind a prefix
+-- ---- what stands after a prefix
 
 behind_chosen : (same : Bool) (o : Option (List ℕ)) (rest : List ℕ) → (if same then o else None) ≡ Some rest → (same ≡ true) × (o ≡ Some rest)
 behind_chosen true o rest h = (refl, h)
@@ -52,7 +52,7 @@ place-write (o ∷ w) rest plain apart =
     let no_space : (o == 32) ≡ false = grind arith in
     rw (no_space, more) (omega arith)
 
--- what holds no space, with nothing or a space behind it, is the word
+-- what holds no space, with nothing or a space after it, is the word
 word-write : (w rest : List ℕ) → list_any (λ o. o == 32) w ≡ false → is_apart rest ≡ true → (word (w ++ rest) ≡ w) × (from_space (w ++ rest) ≡ rest)
 unfolding word from_space
 word-write w rest plain apart =
@@ -64,15 +64,15 @@ word-read : (text : List ℕ) → text ≡ word text ++ from_space text
 unfolding word from_space
 word-read text = sym (take-append-drop (position_or_len (λ octet. octet == 32) text) text)
 
--- ---- values, and texts that tell values
+-- ---- values, and texts that report values
 
--- a value is read of a word just where the word is its text, and it is within its bounds; its text has no space
+-- a value is read of a word exactly if the word is its text, and it is within its bounds; its text has no space
 pub record Spells {A : Type 0} (value_in : List ℕ → Option A) (text_of : A → List ℕ) (Fits : A → Type 0) : Type 0 where
   pub back : (w : List ℕ) (value : A) → value_in w ≡ Some value → (w ≡ text_of value) × Fits value
   pub forth : (value : A) → Fits value → value_in (text_of value) ≡ Some value
   pub plain : (value : A) → Fits value → list_any (λ o. o == 32) (text_of value) ≡ false
 
--- a value is read at the front of a text where its own text stands there, and what stands behind it passes a test
+-- a value is read at the front of a text if its own text stands there, and what stands after it passes a test
 pub record Reads {A : Type 0} (read : List ℕ → Option (A × List ℕ)) (text_of : A → List ℕ) (Fits : A → Type 0) (ends : List ℕ → Bool) : Type 0 where
   pub back : (text : List ℕ) (told : A × List ℕ) → read text ≡ Some told → (text ≡ text_of told.0 ++ told.1) × Fits told.0
   pub forth : (value : A) (rest : List ℕ) → Fits value → ends rest ≡ true → read (text_of value ++ rest) ≡ Some (value, rest)
@@ -95,7 +95,7 @@ field_forth name value_in text_of Fits spells value rest fits apart =
     let parts = word-write (text_of value) rest (spells.plain value fits) apart in
     rw (append_assoc name (text_of value) rest, behind-write name (text_of value ++ rest), parts.0, spells.forth value fits, parts.1) refl
 
--- a field reads, where a word of its value is read
+-- a field reads, if a word of its value is read
 pub field_reads : {A : Type 0} (name : List ℕ) (value_in : List ℕ → Option A) (text_of : A → List ℕ) (Fits : A → Type 0) → Spells value_in text_of Fits → Reads (field name value_in) (λ value. name ++ text_of value) Fits is_apart
 field_reads name value_in text_of Fits spells = record { back = field_back name value_in text_of Fits spells; forth = field_forth name value_in text_of Fits spells }
 
@@ -110,7 +110,7 @@ absent_chosen true text found told h = inl (same_value _ told h)
 absent_chosen false text None told h = cc h
 absent_chosen false text (Some x) told h = inr (x, refl, same_value _ told h)
 
--- a text that begins with a name has something behind it
+-- a text that begins with a name has something after it
 named : (name more rest : List ℕ) → is_none (behind name ((name ++ more) ++ rest)) ≡ false
 named name more rest = rw (append_assoc name more rest, behind-write name (more ++ rest)) refl
 
@@ -131,7 +131,7 @@ part_forth name read texts Fits ends none begins reads (Some value) rest fits ap
     let found : is_none (behind name (texts (Some value) ++ rest)) ≡ false = rw (begins value).1 (named name (begins value).0 rest) in
     rw (found, reads.forth value rest fits parts.0) refl
 
--- a part that may be absent reads, where the part reads, its text begins with its name, and no text stands for none
+-- a part that may be absent reads, if the part reads, its text begins with its name, and no text stands for none
 pub part_reads : {A : Type 0} (name : List ℕ) (read : List ℕ → Option (A × List ℕ)) (texts : Option A → List ℕ) (Fits : A → Type 0) (ends : List ℕ → Bool) → texts None ≡ [] → ((value : A) → (more : List ℕ) × (texts (Some value) ≡ name ++ more)) → Reads read (λ value. texts (Some value)) Fits ends → Reads (part name read) texts (λ value. IfSome value Fits) (ends_if name ends)
 part_reads name read texts Fits ends none begins reads = record {
   back = part_back name read texts Fits ends none reads;

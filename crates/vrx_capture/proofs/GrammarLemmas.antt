@@ -43,7 +43,7 @@ place-write (o ∷ w) rest plain =
     let no_space : (o == 32) ≡ false = grind arith in
     rw (no_space, more) (omega arith)
 
--- what holds no space, with a space behind it, is the word
+-- what holds no space, with a space after it, is the word
 pub word-write : (w rest : List ℕ) → list_any (λ o. o == 32) w ≡ false → (word (w ++ 32 ∷ rest) ≡ w) × (behind_word (w ++ 32 ∷ rest) ≡ rest)
 unfolding word behind_word
 word-write w rest plain =
@@ -52,7 +52,7 @@ word-write w rest plain =
       ap (λ (n : ℕ). drop (n + 1) (w ++ 32 ∷ rest)) place ∙ sym (drop-drop 1 (length w) (w ++ 32 ∷ rest)) ∙ ap (λ (octets : List ℕ). drop 1 octets) (drop_at w (32 ∷ rest) (length w) refl),
     )
 
--- where something stands behind the first space, the text is the word, the space and this
+-- if something stands after the first space, the text is the word, the space and this
 pub word-read : (text : List ℕ) → behind_word text ≢ [] → text ≡ word text ++ 32 ∷ behind_word text
 unfolding word behind_word
 word-read text some = elim (cases_lt (position_or_len (λ octet. octet == 32) text) (length text)) [
@@ -122,7 +122,7 @@ begins_two c (o ∷ s ∷ rest) h = by (o == c) (s == 32) refl refl h
 datagram_text : (m : ℕ) (digits : List ℕ) → codes "d " ++ decimal m ++ codes " " ++ digits ≡ codes "d " ++ (decimal m ++ 32 ∷ digits)
 datagram_text m digits = append_assoc (codes "d " ++ decimal m) (codes " ") digits ∙ append_assoc (codes "d ") (decimal m) (32 ∷ digits)
 
--- a datagram is told by a line that begins so, with its octets
+-- a datagram is reported by a line that begins so, with its octets
 datagram_by : (n m : ℕ) (octets : List ℕ) (datagram more tick pull : Bool) (bytes : Option (List ℕ)) → (if datagram then option_map (λ told. Datagram n told) bytes else if more then None else if tick then Some (Tick n) else if pull then Some (Pull n) else None) ≡ Some (Datagram m octets) → (datagram ≡ true) × (n ≡ m) × (bytes ≡ Some octets)
 datagram_by n m octets true more tick pull (Some told) h = (refl, cc h, cc h)
 datagram_by n m octets true more tick pull None h = cc h
@@ -161,7 +161,7 @@ datagram_mean line m octets = (datagram-read line m octets, datagram-write line 
 
 -- ---- ticks and pulls
 
--- a line that tells a moment alone
+-- a line that reports only a moment
 alone : (c m n : ℕ) (line : List ℕ) → begins (c ∷ 32 ∷ []) line ≡ true → has_more line ≡ false → moment_in line ≡ Some n → n ≡ m → (line ≡ c ∷ 32 ∷ decimal m) × (m ≤ latest_moment)
 alone c m n line kind plain moment same =
     let number = (number_mean latest_moment n (word (told line)) (omega arith)).0 moment in

@@ -25,22 +25,22 @@ length_held buffer start len within = length-take-le len (drop start buffer) (om
 take_add : (n m : ℕ) (xs : List ℕ) → take (n + m) xs ≡ take n xs ++ take m (drop n xs)
 take_add n m xs = sym (take-append-drop n (take (n + m) xs)) ∙ rw (take-take n (n + m) xs (omega arith), drop-take n m xs) refl
 
--- the octets held stay, where the front of the buffer stays
+-- the octets held stay, if the front of the buffer stays
 pub same_held : (before after : List ℕ) (start len : ℕ) → take (start + len) after ≡ take (start + len) before → take len (drop start after) ≡ take len (drop start before)
 same_held before after start len front = sym (drop-take start len after) ∙ ap (λ (octets : List ℕ). drop start octets) front ∙ drop-take start len before
 
--- octets that came behind those held
+-- octets that came after those held
 pub grown : (before after : List ℕ) (start len n : ℕ) → take (start + len) after ≡ take (start + len) before → take (len + n) (drop start after) ≡ take len (drop start before) ++ take n (drop (start + len) after)
 grown before after start len n front = take_add len n (drop start after) ∙ rw (same_held before after start len front, drop-drop len start after) refl
 
--- more octets behind others bring no line feed among these
+-- more octets after others bring no line feed among these
 pub feed_le_append : (octets more : List ℕ) → feed_place octets ≤ feed_place (octets ++ more)
 feed_le_append octets more = grind (arith, prefix_len-append (λ octet. not (octet == 10)) octets more)
 
 pub feed_grown : (before after : List ℕ) (start len n : ℕ) → take (start + len) after ≡ take (start + len) before → feed_place (take len (drop start before)) ≤ feed_place (take (len + n) (drop start after))
 feed_grown before after start len n front = rw (grown before after start len n front) (feed_le_append (take len (drop start before)) (take n (drop (start + len) after)))
 
--- nothing stands behind the end
+-- nothing stands after the end
 pub drop_beyond : (octets : List ℕ) (len : ℕ) → length octets ≤ len → drop len octets ≡ drop (len + 1) octets
 drop_beyond octets len beyond = drop_all len octets beyond ∙ sym (drop_all (len + 1) octets (omega arith))
 
@@ -72,7 +72,7 @@ reads_twice old mid new before between after first second = record {
         spent_before (inr spent) = inr (IsSpent-ahead second.read after (rw second.source at spent))
     spent_by (inr spent) = inr spent
 
--- octets that stand behind others, told twice
+-- octets that stand after others, said twice
 same_behind : (front xs ys : List ℕ) → front ++ xs ≡ front ++ ys → xs ≡ ys
 same_behind front xs ys is = sym (drop-append_seam front xs) ∙ ap (λ (octets : List ℕ). drop (length front) octets) is ∙ drop-append_seam front ys
 

@@ -1,4 +1,4 @@
--- Lemmas on the lines of a text and of the text behind it, and on what they give.
+-- Lemmas on the lines of a text and of the text after it, and on what they give.
 use Rattle.std.proofs.Common.{◌≡◌, ◌≢◌, ℕ, suc, ◌+◌, ◌==◌, Bool, true, false, if◌then◌else◌, List, [], ◌∷◌, ◌++◌, length, Some, None, refl, sym, ap, inl, inr, arith}
 use Rattle.vrx_core.specs.declared.event.Event.{Event}
 use Rattle.vrx_capture.specs.Line.{with_octet, lines_of, line_at}

@@ -36,13 +36,13 @@ unfolding behind
 no_pull [] h = cc
 no_pull (o ∷ os) h = other_octet 100 112 (32 ∷ []) (32 ∷ []) os o h refl
 
--- a line that says nothing tells no event
+-- a line that says nothing reports no event
 no_kind : (line : List ℕ) → is_blank line ≡ true → (is_datagram line ≡ false) × (is_tick line ≡ false) × (is_pull line ≡ false)
 unfolding behind
 no_kind [] h = (refl, refl, refl)
 no_kind (o ∷ os) h = (other_octet 35 100 [] (32 ∷ []) os o h refl, other_octet 35 116 [] (32 ∷ []) os o h refl, other_octet 35 112 [] (32 ∷ []) os o h refl)
 
--- the event of a line, by what it begins with and what it tells
+-- the event of a line, by what it begins with and what it reports
 abbrev pub event_by : Option ℕ → Bool → Bool → Bool → Bool → Option (List ℕ) → Option Event
 event_by moment datagram more tick pull bytes = do
   m ← moment
@@ -57,7 +57,7 @@ none_by None more bytes = refl
 none_by (Some m) true bytes = refl
 none_by (Some m) false bytes = refl
 
--- a line of no kind tells no event
+-- a line of no kind reports no event
 event_in-none : (line : List ℕ) → is_datagram line ≡ false → is_tick line ≡ false → is_pull line ≡ false → event_in line ≡ None
 unfolding event_in
 event_in-none line datagram tick pull = rw (datagram, tick, pull) (none_by (moment_in line) (has_more line) (bytes_in line))

@@ -53,7 +53,7 @@ last_line line no_feed some =
     let same : take (feed_place line) line ≡ line = take_all (feed_place line) line (omega (arith, no_feed)) in
     rw (all, same) at (first_line line (some_length line some))
 
--- a line feed is the first behind octets without one
+-- a line feed is the first after octets without one
 feed_at_end : (line : List ℕ) → feed_place line ≡ length line → feed_place (line ++ 10 ∷ []) ≡ length line
 feed_at_end line no_feed = position_or_len_push (λ octet. octet == 10) line 10 ∙ ap (λ n. cond (eqb n (length line)) (length line + 0) n) no_feed ∙ ap (λ b. cond b (length line + 0) (length line)) (eq-eqb (length line) (length line) refl) ∙ omega arith
 

@@ -8,7 +8,7 @@ use Rattle.std.proofs.lemmas.Fmt.{digits_decimal, digits_value-decimal, decimal-
 use Rattle.std.proofs.lemmas.Str.Parse.{IsNumeralModel, numerals_by_fold}
 use Rattle.vrx_capture.specs.Words.{number_from, number_in}
 
--- the number that digits make, behind those that make `n`
+-- the number that digits make, after those that make `n`
 abbrev read_on : ℕ → List ℕ → ℕ
 read_on n [] = n
 read_on n (c ∷ cs) = read_on (n * 10 + (c - 48)) cs
@@ -20,7 +20,7 @@ read_on-ge : (n : ℕ) (ds : List ℕ) → n ≤ read_on n ds
 read_on-ge n [] = omega arith
 read_on-ge n (c ∷ cs) = let more : n * 10 + (c - 48) ≤ read_on (n * 10 + (c - 48)) cs = read_on-ge (n * 10 + (c - 48)) cs in omega arith
 
--- what a choice shows that gives a value only where the test holds, or fails
+-- what a choice shows that gives a value only if the test holds, or fails
 chosen : {A : Type 0} (b : Bool) (o : Option A) (x : A) → (if b then o else None) ≡ Some x → (b ≡ true) × (o ≡ Some x)
 chosen true o x h = (refl, h)
 chosen false o x h = cc h
@@ -29,7 +29,7 @@ pub not_chosen : {A : Type 0} (b : Bool) (o : Option A) (x : A) → (if b then N
 not_chosen true o x h = cc h
 not_chosen false o x h = (refl, h)
 
--- what digits make, where they make a number
+-- what digits make, if they make a number
 record Made (most value n : ℕ) (ds : List ℕ) : Type 0 where
   digits : all_ascii_digits ds ≡ true
   number : read_on value ds ≡ n
@@ -53,7 +53,7 @@ number_from-write most value (d ∷ ds) digits bound =
     let rest : all_ascii_digits ds ≡ true = grind arith in
     rw test (number_from-write most (value * 10 + (d - 48)) ds rest bound)
 
--- digits with no zero in front, or one zero alone, make a number
+-- digits with no zero in front, or only one zero, make a number
 number_in-write : (most n : ℕ) (ds : List ℕ) → all_ascii_digits ds ≡ true → read_on 0 ds ≡ n → 0 < length ds → (get_or ds 0 0 ≡ 48 → length ds ≡ 1) → n ≤ most → number_in most ds ≡ Some n
 unfolding number_in
 number_in-write most n [] digits number some front bound = absurd (omega arith)

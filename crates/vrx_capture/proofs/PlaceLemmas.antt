@@ -11,15 +11,15 @@ use Rattle.std.proofs.lemmas.List.Sums.{fails_before_first, passes_at_first, pos
 pub place_here : (p : ℕ → Bool) (xs : List ℕ) (i d : ℕ) → i ≤ position_or_len p xs → p (get_or xs i d) ≡ true → i ≡ position_or_len p xs
 place_here p xs i d none here = grind (arith, fails_before_first p xs i d)
 
--- the first is behind an element that fails
+-- the first is after an element that fails
 pub place_later : (p : ℕ → Bool) (xs : List ℕ) (i d : ℕ) → i ≤ position_or_len p xs → i < length xs → p (get_or xs i d) ≡ false → i + 1 ≤ position_or_len p xs
 place_later p xs i d none within fails = grind (arith, passes_at_first p xs d)
 
--- the first place lies within the list, or behind its end
+-- the first place lies within the list, or after its end
 pub place_within : (p : ℕ → Bool) (xs : List ℕ) → position_or_len p xs ≤ length xs
 place_within p xs = prefix_len-le-length _ xs
 
--- the first that passes behind a place with none before it, if there is one
+-- the first that passes after a place with none before it, if there is one
 pub found_behind : (p : ℕ → Bool) (xs : List ℕ) (clear : ℕ) (found : Option ℕ) → clear ≤ position_or_len p xs → IsFirstByte p (drop clear xs) found → MatchOption found (length xs ≡ position_or_len p xs) (λ i. clear + i ≡ position_or_len p xs)
 found_behind p xs clear found none is = by_found found is where
   within : clear ≤ length xs

@@ -109,7 +109,7 @@ no_head : (kept more : List ℕ) → kept ≡ [] → more ≡ [] → HasNoHead (
 unfolding lines_of
 no_head kept more none nothing = rw (none, nothing) tt
 
--- Behind a find, which left a reader `mid`.
+-- After a find, which left a reader `mid`.
 module _ (old mid : Reader) (before after : Option (List ℕ)) (reads : ReadsOn (held_by old) (held_by mid) before after) (counts : KeepsCounts old mid) (so : List ℕ → Type 0) (read_so : so reads.read) where
   pub given_same : mid.given ≡ old.given
   given_same = ap (λ (r : Reader). r.given) counts
@@ -127,7 +127,7 @@ module _ (old mid : Reader) (before after : Option (List ℕ)) (reads : ReadsOn 
   says_same : (octets : List ℕ) → says old octets ≡ says mid octets
   says_same octets = rw (given_same, events_same, max_same, bad_same) refl
 
-  -- what it did, where it passed over octets then
+  -- what it did, if it passed over octets then
   abbrev pub made : (new : Reader) (gone : List ℕ) → mid.kept ≡ gone ++ new.kept → new.ended ≡ mid.ended → new.given ≡ mid.given + length (lines_of gone) → new.max ≡ mid.max → AreWhole gone ⊎ ((new.ended ≡ true) × (new.kept ≡ [])) → Passes old new before after
   made new gone octets ended given max whole = record {
     read = reads.read;
@@ -141,11 +141,11 @@ module _ (old mid : Reader) (before after : Option (List ℕ)) (reads : ReadsOn 
     max = max ∙ max_same;
   }
 
-  -- where it passed over none
+  -- if it passed over none
   abbrev pub made_none : (new : Reader) → new.kept ≡ mid.kept → new.ended ≡ mid.ended → new.given ≡ mid.given → new.max ≡ mid.max → Passes old new before after
   made_none new kept ended given max = made new [] (sym kept) ended (given ∙ none_given mid.given) max (inl (inl refl))
 
-  -- where it passed over its first line
+  -- if it passed over its first line
   abbrev pub made_line : (new : Reader) (len : ℕ) → IsFirstLine mid.kept mid.ended len → new.kept ≡ drop (len + 1) mid.kept → new.ended ≡ mid.ended → new.given ≡ mid.given + 1 → new.max ≡ mid.max → Passes old new before after
   made_line new len first kept ended given max =
       made new (take (len + 1) mid.kept) (sym (parted mid.kept mid.ended len first) ∙ ap (λ (xs : List ℕ). take (len + 1) mid.kept ++ xs) (sym kept)) ended (given ∙ ap (λ (xs : List (List ℕ)). mid.given + length xs) (sym (gone_line mid.kept mid.ended len first))) max (rw (ended, kept) (gone_whole mid.kept mid.ended len first))
@@ -223,7 +223,7 @@ module _ (old mid : Reader) (before after : Option (List ℕ)) (reads : ReadsOn 
 
 -- ---- several steps
 
--- Behind steps over lines that say nothing.
+-- After steps over lines that say nothing.
 module _ (old mid : Reader) (before between : Option (List ℕ)) (first : GoesOn old mid before between) (good : old.bad ≡ None) where
   pub next_after : {S : Type 0} (is_read : S → List ℕ → S → Type 0) (start was now : S) → ReadsSo is_read (SayNothing old) old.kept start was first.passes.read → (mid.ended ≡ true → now ≡ was) → (new : Reader) (after : Option (List ℕ)) (result : Result Line LineFault)
       → (passes : Passes mid new between after) × IsNext mid new passes.read passes.gone result × ReadsSo is_read IsPart mid.kept was now passes.read → (passes : Passes old new before after) × IsNext old new passes.read passes.gone result × ReadsSo is_read (SayNothing old) old.kept start now passes.read
@@ -241,6 +241,6 @@ module _ (old mid : Reader) (before between : Option (List ℕ)) (first : GoesOn
     reads-on old mid before between first good is_read start was now reads new after second.0.passes idle second.1,
   )
 
-  -- and no read behind its end
+  -- and no read after its end
   pub idle_source : {A : Type 0} (start was now : A) → (old.ended ≡ true → was ≡ start) → (mid.ended ≡ true → now ≡ was) → old.ended ≡ true → now ≡ start
   idle_source start was now idle still ended = still (first.passes.stays ended).0 ∙ idle ended

@@ -1,4 +1,4 @@
--- Lemmas on what lines give, told by what each of them is.
+-- Lemmas on what lines give, by what each of them is.
 use Rattle.std.proofs.Common.{◌≡◌, ◌↔◌, ℕ, ◌+◌, List, [], ◌∷◌, ◌++◌, length, Option, Some, None, refl, sym, ap, ◌∙◌, inl, inr, arith}
 use Rattle.std.proofs.lemmas.List.{append-nil}
 use Rattle.vrx_core.specs.declared.event.Event.{Event}
@@ -37,7 +37,7 @@ first_reading : (max k events : ℕ) (line : List ℕ) (lines : List (List ℕ))
 unfolding reading
 first_reading max k events line lines kind is = rw is refl
 
--- behind the line of an event stand the other lines
+-- after the line of an event stand the other lines
 event_rest : (k : ℕ) (event : Event) (rest : Reading) (given : List (ℕ × Event)) (bad : Option (ℕ × LineReason)) → with_line k (Happens event) rest ≡ record { events = given; bad = bad } → (given ≡ (k, event) ∷ rest.events) × (rest ≡ record { events = rest.events; bad = bad })
 event_rest k event rest given bad h =
     let events : (k, event) ∷ rest.events ≡ given = ap (λ (r : Reading). r.events) h in

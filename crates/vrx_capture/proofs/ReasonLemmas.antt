@@ -213,7 +213,7 @@ hex_row line = (
   λ is. and-write (is_datagram line) (is_none (bytes_in line)) (begins-write (codes "d ") line is.0, none-write (bytes_in line) (λ octets h. is.1 octets (octets-read line octets h))),
 )
 
--- a list of rows, each of which holds just where its reason has a property
+-- a list of rows, each of which holds exactly if its reason has a property
 abbrev RowsMean : (LineReason → Type 0) → List (Bool × LineReason) → Type 0
 RowsMean P [] = Unit {0}
 RowsMean P ((applies, reason) ∷ rows) = ((applies ≡ true) ↔ P reason) × RowsMean P rows
@@ -336,7 +336,7 @@ passed_by false false false true true rest h = cc h
 passed_by false false false true false rest h = record { few = refl; short = refl; known = refl; fewer = λ e. refl; none = h }
 passed_by false false false false full rest h = record { few = refl; short = refl; known = refl; fewer = λ e. cc e; none = h }
 
--- an event line to which no reason applies tells an event
+-- an event line to which no reason applies reports an event
 some_event : (moment : Option ℕ) (datagram more tick pull : Bool) (bytes : Option (List ℕ)) → (datagram || tick || pull) ≡ true → (if (datagram || tick || pull) && is_none moment then Some Moment else if (tick || pull) && more then Some End else if datagram && is_none bytes then Some Hex else None) ≡ None → event_by moment datagram more tick pull bytes ≡ None → ⊥
 some_event None true more tick pull bytes event h none = cc h
 some_event None false more true pull bytes event h none = cc h
@@ -354,7 +354,7 @@ some_event (Some m) false true false true bytes event h none = cc h
 some_event (Some m) false false false true bytes event h none = cc none
 some_event (Some m) false more false false bytes event h none = cc event
 
--- to an event line that tells an event none of the last three reasons applies
+-- to an event line that reports an event none of the last three reasons applies
 no_reason : (moment : Option ℕ) (datagram more tick pull : Bool) (bytes : Option (List ℕ)) (told : Event) → (datagram ≡ true → tick ≡ false) → (datagram ≡ true → pull ≡ false) → event_by moment datagram more tick pull bytes ≡ Some told → (if (datagram || tick || pull) && is_none moment then Some Moment else if (tick || pull) && more then Some End else if datagram && is_none bytes then Some Hex else None) ≡ None
 no_reason None datagram more tick pull bytes told not_tick not_pull h = cc h
 no_reason (Some m) true more tick pull None told not_tick not_pull h = cc h

@@ -7,7 +7,7 @@ use Rattle.vrx_capture.specs.declared.line.LineKind.TheVariants.{Blank, Happens,
 use Rattle.vrx_capture.specs.declared.line.LineReason.TheVariants.{Lines, Kind, Events, Moment, End, Hex}
 use Rattle.vrx_capture.proofs.OnLiterals.{capture_on_literals}
 
--- a line without a line feed at the end counts where it isn't empty
+-- a line without a line feed at the end counts if it isn't empty
 pub three_lines : lines_of (codes "a" ++ (10 ∷ 10 ∷ codes "bc")) ≡ codes "a" ∷ [] ∷ codes "bc" ∷ []
 unfolding capture_on_literals
 three_lines = refl

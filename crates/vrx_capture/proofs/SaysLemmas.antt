@@ -44,7 +44,7 @@ none_after (x ∷ xs) ys none = cc none
 
 -- A reader that passed over lines that say nothing.
 module _ (old mid : Reader) (before between : Option (List ℕ)) (first : GoesOn old mid before between) (good : old.bad ≡ None) where
-  -- what whole lines say behind those
+  -- what whole lines say after those
   says-whole : (octets : List ℕ) → AreWhole first.passes.gone → says old (first.passes.gone ++ octets) ≡ says mid octets
   says-whole octets whole =
       let n : ℕ = length (lines_of first.passes.gone) in
@@ -61,7 +61,7 @@ module _ (old mid : Reader) (before between : Option (List ℕ)) (first : GoesOn
 
   -- What it did next.
   module _ (new : Reader) (after : Option (List ℕ)) (second : Passes mid new between after) where
-    -- behind a last line with no line feed nothing is read or passed over
+    -- after a last line with no line feed nothing is read or passed over
     pub behind_last : (mid.ended ≡ true) × (mid.kept ≡ []) → (second.read ≡ []) × (second.gone ≡ [])
     behind_last last =
         let stays = second.stays last.0 in

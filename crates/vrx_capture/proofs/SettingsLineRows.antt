@@ -21,7 +21,7 @@ unfolding settings_on_literals
 fullest = refl
 
 -- upper-case digits, a leading zero, more than eight bits, a type of FEC without RED, an interval of six digits, and
--- anything behind the end are refused
+-- anything after the end are refused
 pub upper_case : settings_in (codes "vrx 1 codec=vp8 ssrc=0000000A pt=96 from=0000000b") ≡ None
 unfolding settings_on_literals
 upper_case = refl

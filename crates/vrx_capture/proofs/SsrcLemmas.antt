@@ -51,7 +51,7 @@ encoded_plain (b ∷ xs) fits =
     plain_front (slice_index lower_digits (b / 16)) (slice_index lower_digits (b % 16) ∷ encode_with lower_digits xs) (lower_plain (b / 16) (omega arith))
     (plain_front (slice_index lower_digits (b % 16)) (encode_with lower_digits xs) (lower_plain (b % 16) (omega arith)) (encoded_plain xs (λ i. fits (suc i))))
 
--- ---- digits that read are those that are written, where none is an upper-case letter
+-- ---- digits that read are those that are written, if none is an upper-case letter
 
 abbrev goes_back : ℕ → Bool → Option ℕ → Bool
 goes_back c upper None = true

@@ -2,6 +2,6 @@
 use Rattle.std.specs.Prelude.{ℕ, List, ◌++◌, Option}
 use Rattle.std.specs.Option.{option_map}
 
--- the octets ahead, where the source tells what it has left
+-- the octets ahead, if the source reports what it has left
 unfoldable pub ahead : List ℕ → Option (List ℕ) → Option (List ℕ)
 ahead kept left = option_map (λ octets. kept ++ octets) left

@@ -4,13 +4,13 @@ use Rattle.vrx_capture.specs.Line.{feed_place, longest_line}
 use Rattle.vrx_capture.specs.declared.held.Found.{Found}
 use Rattle.vrx_capture.specs.declared.held.Found.TheVariants.{Line, TooLong, End}
 
--- the first line is the first `len` octets kept; behind it stands its line feed, or it is the last of its source
+-- the first line is the first `len` octets kept; after it stands its line feed, or it is the last of its source
 pub record IsFirstLine (kept : List ℕ) (ended : Bool) (len : ℕ) : Type 0 where
   pub place : len ≡ feed_place kept
   pub short : len ≤ longest_line
   pub whole : (len < length kept) ⊎ ((0 < len) × (ended ≡ true))
 
--- a find is right, where these octets are kept, and the source was read to its end or not
+-- a find is right of these octets that are kept, with a source that was read to its end or not
 abbrev pub IsFound : List ℕ → Bool → Found → Type 0
 IsFound kept ended (Line len) = IsFirstLine kept ended len
 IsFound kept ended TooLong = longest_line < feed_place kept

@@ -8,11 +8,11 @@ pub record Holding : Type 0 where
   pub kept : List ℕ
   pub ended : Bool
 
--- what reading on did: the source gave some octets, and they stand behind those kept before
+-- what reading on did: the source gave some octets, and they stand after those kept before
 pub record ReadsOn (old new : Holding) (before after : Option (List ℕ)) : Type 0 where
   pub read : List ℕ
   pub source : before ≡ ahead read after
   pub octets : new.kept ≡ old.kept ++ read
   pub end : new.ended ≡ true → (old.ended ≡ true) ⊎ IsSpent after
-  -- behind the end nothing is read
+  -- after the end nothing is read
   pub stays : old.ended ≡ true → (new.ended ≡ true) × (read ≡ [])

@@ -1,4 +1,4 @@
--- What the event lines of a capture mean, as relations between their octets and what they tell.
+-- What the event lines of a capture mean, as relations between their octets and what they report.
 use Rattle.std.specs.Prelude.{◌≡◌, ◌≢◌, ◌⊎◌, ℕ, ◌<◌, ◌≤◌, ◌==◌, true, List, [], ◌++◌, length, drop, codes, Ok}
 use Rattle.std.specs.List.{list_any}
 use Rattle.std.specs.Fmt.{decimal}
@@ -23,7 +23,7 @@ BeginsWith prefix line = (rest : List ℕ) × (line ≡ prefix ++ rest)
 abbrev pub IsBlankLine : List ℕ → Type 0
 IsBlankLine line = (line ≡ []) ⊎ BeginsWith (codes "#") line
 
--- a line begins as that of a tick or a pull, behind whose moment nothing may stand
+-- a line begins as that of a tick or a pull, after whose moment nothing may stand
 abbrev pub BeginsAlone : List ℕ → Type 0
 BeginsAlone line = BeginsWith (codes "t ") line ⊎ BeginsWith (codes "p ") line
 
@@ -35,7 +35,7 @@ BeginsEvent line = BeginsWith (codes "d ") line ⊎ BeginsAlone line
 abbrev pub HasSpace : List ℕ → Type 0
 HasSpace octets = list_any (λ octet. octet == 32) octets ≡ true
 
--- behind its letter and a space a line tells this moment: its decimal digits, and then the line ends or a space
+-- after its letter and a space a line reports this moment: its decimal digits, and then the line ends or a space
 -- follows
 pub record TellsMoment (line : List ℕ) (m : ℕ) : Type 0 where
   pub rest : List ℕ
@@ -43,7 +43,7 @@ pub record TellsMoment (line : List ℕ) (m : ℕ) : Type 0 where
   pub ends : (rest ≡ []) ⊎ BeginsWith (codes " ") rest
   pub bound : m ≤ latest_moment
 
--- behind its letter, a space, a word and a space a line tells these octets, at least one: two hexadecimal digits each
+-- after its letter, a space, a word and a space a line reports these octets, one or more: two hexadecimal digits each
 pub record TellsOctets (line octets : List ℕ) : Type 0 where
   pub word : List ℕ
   pub digits : List ℕ
@@ -52,7 +52,7 @@ pub record TellsOctets (line octets : List ℕ) : Type 0 where
   pub hex : decode_of digits ≡ Ok octets
   pub some : octets ≢ []
 
--- line k, behind this many event lines of at most `max`, is bad for a reason, whether or not for an earlier one too
+-- line k, after this many event lines of at most `max`, is bad for a reason, whether or not for an earlier one too
 abbrev pub IsBad : ℕ → ℕ → ℕ → List ℕ → LineReason → Type 0
 IsBad max k events line Lines = most_lines < k
 IsBad max k events line Long = longest_line < length line

@@ -16,26 +16,26 @@ use Rattle.vrx_capture.specs.declared.settings_line.CodecName.{CodecName}
 abbrev pub ssrc_text : ℕ → List ℕ
 ssrc_text ssrc = encode_lower (to_be_bytes w32 ssrc)
 
--- a field with a number, and nothing where the number is absent
+-- a field with a number, and nothing if the number is absent
 abbrev pub number_text : List ℕ → Option ℕ → List ℕ
 number_text name None = []
 number_text name (Some number) = name ++ decimal number
 
--- RED's types, and nothing where there is no RED
+-- RED's types, and nothing if there is no RED
 abbrev pub red_text : Option Red → List ℕ
 red_text None = []
 red_text (Some red) = codes " red=" ++ decimal red.red_type ++ number_text (codes " fec=") red.fec_type
 
--- the stream of retransmissions, and nothing where there is none
+-- the stream of retransmissions, and nothing if there is none
 abbrev pub rtx_text : Option Rtx → List ℕ
 rtx_text None = []
 rtx_text (Some rtx) = codes " rtxssrc=" ++ ssrc_text rtx.ssrc ++ codes " rtx=" ++ decimal rtx.media_rtx_type ++ number_text (codes " rtxred=") rtx.red_rtx_type
 
--- the interval of requests, and nothing where the line tells none
+-- the interval of requests, and nothing if the line reports none
 abbrev pub interval_text : Option ℕ → List ℕ
 interval_text told = number_text (codes " interval=") told
 
--- a line is the settings line of a codec and of settings: it is spelled so. Where it tells no interval, the settings
+-- a line is the settings line of a codec and of settings: it is spelled so. If it reports no interval, the settings
 -- have the usual one. Each payload type fits an octet, each SSRC 32 bits, and the interval five digits
 pub record IsSettingsLine (line : List ℕ) (codec : CodecName) (settings : Settings) : Type 0 where
   pub told : Option ℕ

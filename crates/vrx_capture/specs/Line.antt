@@ -1,5 +1,5 @@
 -- The lines of a capture, and what each says. A capture is octets: a line ends before a line feed, and what stands
--- after the last line feed is a line where it isn't empty.
+-- after the last line feed is a line if it isn't empty.
 use Rattle.std.specs.Prelude.{◌≡◌, ◌≤◌, ℕ, Bool, true, not, ◌&&◌, ◌||◌, ◌==◌, nat_lt, nat_le, if◌then◌else◌, List, [], ◌∷◌, length, drop, codes, Option, Some, None, is_some, is_none}
 use Rattle.std.specs.List.{list_any, position_or_len}
 use Rattle.std.specs.Option.{option_map}
@@ -13,7 +13,7 @@ use Rattle.vrx_capture.specs.declared.line.LineKind.TheVariants.{Blank, Happens,
 use Rattle.vrx_capture.specs.declared.line.LineReason.{LineReason}
 use Rattle.vrx_capture.specs.declared.line.LineReason.TheVariants.{Lines, Long, Kind, Events, Moment, End, Hex}
 
--- the place of the first line feed, or the length where there is none
+-- the place of the first line feed, or the length if there is none
 abbrev pub feed_place : List ℕ → ℕ
 feed_place octets = position_or_len (λ octet. octet == 10) octets
 
@@ -39,7 +39,7 @@ longest_line = 20000
 abbrev pub IsPart : List ℕ → Type 0
 IsPart octets = (feed_place octets ≡ length octets) × (length octets ≤ longest_line)
 
--- the greatest moment that a line tells: twelve digits
+-- the greatest moment that a line reports: twelve digits
 abbrev pub latest_moment : ℕ
 latest_moment = 999999999999
 
@@ -52,7 +52,7 @@ abbrev pub is_blank : List ℕ → Bool
 is_blank [] = true
 is_blank (octet ∷ octets) = begins (codes "#") (octet ∷ octets)
 
--- a line tells a datagram, a tick or a pull
+-- a line reports a datagram, a tick or a pull
 abbrev pub is_datagram : List ℕ → Bool
 is_datagram line = begins (codes "d ") line
 
@@ -62,19 +62,19 @@ is_tick line = begins (codes "t ") line
 abbrev pub is_pull : List ℕ → Bool
 is_pull line = begins (codes "p ") line
 
--- a line tells an event
+-- a line reports an event
 abbrev pub is_event : List ℕ → Bool
 is_event line = is_datagram line || is_tick line || is_pull line
 
--- what an event line tells behind its first letter and a space: MOMENT, or MOMENT and more
+-- what an event line reports after its first letter and a space: MOMENT, or MOMENT and more
 abbrev pub told : List ℕ → List ℕ
 told line = drop 2 line
 
--- the moment that an event line tells, up to the next space or its end
+-- the moment that an event line reports, up to the next space or its end
 abbrev pub moment_in : List ℕ → Option ℕ
 moment_in line = number_in latest_moment (word (told line))
 
--- something stands behind the moment, a space at least; a space is 32
+-- something stands after the moment, a space at least; a space is 32
 abbrev pub has_more : List ℕ → Bool
 has_more line = list_any (λ octet. octet == 32) (told line)
 
@@ -87,7 +87,7 @@ some_octets (Some (octet ∷ octets)) = Some (octet ∷ octets)
 unfoldable pub octets_in : List ℕ → Option (List ℕ)
 octets_in digits = some_octets (result_ok (decode_of digits))
 
--- the octets that a datagram's line tells behind its moment and a space
+-- the octets that a datagram's line reports after its moment and a space
 abbrev pub bytes_in : List ℕ → Option (List ℕ)
 bytes_in line = octets_in (behind_word (told line))
 
@@ -99,7 +99,7 @@ event_reasons line =
     ∷ (is_datagram line && is_none (bytes_in line), Hex)
     ∷ []
 
--- why line k may be bad, behind `events` other event lines of at most `max`, in the order in which the reasons count
+-- why line k may be bad, after `events` other event lines of at most `max`, in the order in which the reasons count
 abbrev pub reasons : ℕ → ℕ → ℕ → List ℕ → List (Bool × LineReason)
 reasons max k events line =
     (nat_lt most_lines k, Lines)
@@ -113,7 +113,7 @@ abbrev pub first_reason : List (Bool × LineReason) → Option LineReason
 first_reason [] = None
 first_reason ((applies, reason) ∷ rows) = if applies then Some reason else first_reason rows
 
--- the event that a line tells at a moment; behind the moment of a tick or a pull nothing stands
+-- the event that a line reports at a moment; after the moment of a tick or a pull nothing stands
 abbrev pub event_at : List ℕ → ℕ → Option Event
 event_at line moment =
     if is_datagram line then option_map (λ bytes. Datagram moment bytes) (bytes_in line)
@@ -138,6 +138,6 @@ said None None = Blank
 unfoldable pub event_line : List ℕ → LineKind
 event_line line = said (first_reason (event_reasons line)) (event_in line)
 
--- what line k says, behind this many event lines
+-- what line k says, after this many event lines
 unfoldable pub line_at : ℕ → ℕ → ℕ → List ℕ → LineKind
 line_at max k events line = said (first_reason (reasons max k events line)) (event_in line)

@@ -29,7 +29,7 @@ pub record Reader : Type 0 where
 abbrev pub opening : ℕ → Reader
 opening max = record { kept = []; ended = false; given = 0; events = 0; max = max; bad = None }
 
--- what lines say to a reader as the next ones; behind a bad line they say that alone
+-- what lines say to a reader as the next ones; after a bad line they say only that
 abbrev pub says : Reader → List ℕ → Reading
 says reader octets = option_map_or bad_at reader.bad (reading reader.max (reader.given + 1) reader.events (lines_of octets))
 
@@ -41,7 +41,7 @@ AreWhole octets = (octets ≡ []) ⊎ ((front : List ℕ) × (octets ≡ front +
 abbrev pub HasNoFeed : List ℕ → Type 0
 HasNoFeed octets = feed_place octets ≡ length octets
 
--- octets may follow, or none do where the source was read to its end
+-- octets may follow, or none do if the source was read to its end
 abbrev pub MayFollow : Reader → List ℕ → Type 0
 MayFollow reader octets = reader.ended ≡ true → octets ≡ []
 
@@ -49,10 +49,10 @@ MayFollow reader octets = reader.ended ≡ true → octets ≡ []
 pub record Passes (old new : Reader) (before after : Option (List ℕ)) : Type 0 where
   pub read : List ℕ
   pub gone : List ℕ
-  -- the source gave these octets, and was read to its end where the reader says so
+  -- the source gave these octets, and was read to its end if the reader says so
   pub source : before ≡ ahead read after
   pub end : new.ended ≡ true → (old.ended ≡ true) ⊎ IsSpent after
-  -- behind the end nothing is read
+  -- after the end nothing is read
   pub stays : old.ended ≡ true → (new.ended ≡ true) × (read ≡ [])
   pub octets : old.kept ++ read ≡ gone ++ new.kept
   -- whole lines are passed over; the last line of a source needs no line feed
@@ -64,7 +64,7 @@ pub record Passes (old new : Reader) (before after : Option (List ℕ)) : Type 0
 abbrev pub AllSayBad : Reader → Reader → List ℕ → ℕ × LineReason → Type 0
 AllSayBad old new octets bad = (more : List ℕ) → MayFollow new more → says old (octets ++ more) ≡ bad_at bad
 
--- the answer to a call for the next event, where the reader read these octets and passed over these lines
+-- the answer to a call for the next event, if the reader read these octets and passed over these lines
 abbrev pub IsNext : Reader → Reader → List ℕ → List ℕ → Result Line LineFault → Type 0
 -- an event: the lines say it, and nothing else
 IsNext old new read gone (Ok (lines.Event k event)) = (says old gone ≡ sound ((k, event) ∷ [])) × (new.events ≡ old.events + 1) × (new.events ≤ new.max) × (new.bad ≡ None)
@@ -74,7 +74,7 @@ IsNext old new read gone (Ok lines.End) = (says old gone ≡ sound []) × (new.k
 IsNext old new read gone (Err (faults.Bad k reason)) = AllSayBad old new (old.kept ++ read) (k, reason) × (new.events ≡ old.events) × (new.bad ≡ Some (k, reason))
 -- a failed read: the lines say nothing, and no whole line is kept, but a part of one that may be taken yet
 IsNext old new read gone (Err faults.ReadFault) = (says old gone ≡ sound []) × HasNoFeed new.kept × (new.ended ≡ false) × (new.events ≡ old.events) × (new.bad ≡ None) × (length new.kept ≤ longest_line)
--- want of memory: the lines say nothing
+-- out of memory: the lines say nothing
 IsNext old new read gone (Err faults.NoMemory) = (says old gone ≡ sound []) × (new.events ≡ old.events) × (new.bad ≡ None)
 
 -- octets that a reader kept and read are whole lines that say nothing, and a part of a line that may be taken yet
@@ -91,7 +91,7 @@ abbrev pub HasNoHead : List (List ℕ) → Type 0
 HasNoHead [] = Unit {0}
 HasNoHead (line ∷ lines) = longest_line < length line
 
--- the answer to a call for the next line as it stands, where the reader read these octets and passed over these lines
+-- the answer to a call for the next line as it stands, if the reader read these octets and passed over these lines
 abbrev pub IsHead : Reader → Reader → List ℕ → List ℕ → Option (List ℕ) → Type 0
 -- a line: it was passed over
 IsHead old new read gone (Some line) = (lines_of gone ≡ line ∷ []) × (length line ≤ longest_line)
@@ -99,7 +99,7 @@ IsHead old new read gone (Some line) = (lines_of gone ≡ line ∷ []) × (lengt
 -- still
 IsHead old new read gone None = (gone ≡ []) × (old.given < most_lines → (more : List ℕ) → MayFollow new more → HasNoHead (lines_of (old.kept ++ read ++ more)))
 
--- a failed read, or want of memory: no line was passed over; and after a failed read no whole line is kept, but a
+-- a failed read, or out of memory: no line was passed over; and after a failed read no whole line is kept, but a
 -- part of one that may be taken yet
 abbrev pub IsHeadFault : Reader → List ℕ → HeadFault → Type 0
 IsHeadFault new gone heads.ReadFault = (gone ≡ []) × HasNoFeed new.kept × (new.ended ≡ false) × (length new.kept ≤ longest_line)

@@ -1,4 +1,4 @@
--- How a capture is read behind its settings line.
+-- How a capture is read after its settings line.
 use Rattle.std.specs.Prelude.{ℕ, ◌+◌, List, [], ◌∷◌, Option, Some, None}
 use Rattle.vrx_core.specs.declared.event.Event.{Event}
 use Rattle.vrx_capture.specs.Line.{line_at}
@@ -7,7 +7,7 @@ use Rattle.vrx_capture.specs.declared.line.LineKind.TheVariants.{Blank, Happens,
 use Rattle.vrx_capture.specs.declared.line.LineReason.{LineReason}
 
 -- what lines give: the events in order, each with the number of its line, up to the first bad line; and the number
--- of that line with its reason, where there is one
+-- of that line with its reason, if there is one
 pub record Reading : Type 0 where
   pub events : List (ℕ × Event)
   pub bad : Option (ℕ × LineReason)
@@ -26,13 +26,13 @@ event_count Blank = 0
 event_count (Wrong reason) = 0
 event_count (Happens event) = 1
 
--- what line k, which says this, gives with the lines behind it
+-- what line k, which says this, gives with the lines after it
 abbrev pub with_line : ℕ → LineKind → Reading → Reading
 with_line k Blank rest = rest
 with_line k (Wrong reason) rest = bad_at (k, reason)
 with_line k (Happens event) rest = record { events = (k, event) ∷ rest.events; bad = rest.bad }
 
--- what lines give, the first of them with the number k, behind this many event lines; a capture has at most `max` of
+-- what lines give, the first of them with the number k, after this many event lines; a capture has at most `max` of
 -- these
 unfoldable pub reading : ℕ → ℕ → ℕ → List (List ℕ) → Reading
 reading max k events [] = sound []

@@ -3,7 +3,7 @@
 --     vrx 1 codec=C ssrc=H pt=N[ red=N[ fec=N]][ rtxssrc=H rtx=N[ rtxred=N]] from=H[ interval=N]
 --
 -- C is vp8 or h264, H is eight lower-case hexadecimal digits, and N is one to five decimal digits without a leading
--- zero (0 alone may be), at most 255 for a payload type. What stands in brackets may be absent.
+-- zero (0 by itself may be), at most 255 for a payload type. What stands in brackets may be absent.
 use Rattle.std.specs.Prelude.{ℕ, Bool, ◌&&◌, nat_le, if◌then◌else◌, List, [], ◌∷◌, codes, Option, Some, None, is_none}
 use Rattle.std.specs.List.{list_any}
 use Rattle.std.specs.Option.{option_map, unwrap_or}
@@ -44,7 +44,7 @@ greatest_type = 255
 unfoldable pub type_in : List ℕ → Option ℕ
 type_in digits = number_in greatest_type digits
 
--- an interval of requests, in milliseconds: five digits; and the one where the line tells none
+-- an interval of requests, in milliseconds: five digits; and the usual one, if the line reports none
 abbrev pub longest_interval : ℕ
 longest_interval = 99999
 
@@ -54,14 +54,14 @@ interval_in digits = number_in longest_interval digits
 abbrev pub usual_interval : ℕ
 usual_interval = 100
 
--- a field: its name, and its value up to the next space or the end. It gives the value, and what stands behind it
+-- a field: its name, and its value up to the next space or the end. It gives the value, and what stands after it
 unfoldable pub field : {A : Type 0} → List ℕ → (List ℕ → Option A) → List ℕ → Option (A × List ℕ)
 field name value_in text = do
   told ← behind name text
   value ← value_in (word told)
   Some (value, from_space told)
 
--- what may be absent: it's read where the text begins with the name of its first field
+-- what may be absent: it's read if the text begins with the name of its first field
 unfoldable pub part : {A : Type 0} → List ℕ → (List ℕ → Option (A × List ℕ)) → List ℕ → Option (Option A × List ℕ)
 part name read text =
     if is_none (behind name text) then Some (None, text)
@@ -71,14 +71,14 @@ part name read text =
 abbrev pub field_if : {A : Type 0} → List ℕ → (List ℕ → Option A) → List ℕ → Option (Option A × List ℕ)
 field_if name value_in text = part name (field name value_in) text
 
--- RED: its payload type, and that of FEC in it, where there is one
+-- RED: its payload type, and that of FEC in it, if there is one
 unfoldable pub red_in : List ℕ → Option (Red × List ℕ)
 red_in text = do
   red ← field (codes " red=") type_in text
   fec ← field_if (codes " fec=") type_in red.1
   Some (record { red_type = red.0; fec_type = fec.0 }, fec.1)
 
--- the stream of retransmissions: its SSRC, its payload type for media, and that for RED, where there is one
+-- the stream of retransmissions: its SSRC, its payload type for media, and that for RED, if there is one
 unfoldable pub rtx_in : List ℕ → Option (Rtx × List ℕ)
 rtx_in text = do
   ssrc ← field (codes " rtxssrc=") ssrc_in text
@@ -86,12 +86,12 @@ rtx_in text = do
   red ← field_if (codes " rtxred=") type_in media.1
   Some (record { ssrc = ssrc.0; media_rtx_type = media.0; red_rtx_type = red.0 }, red.1)
 
--- a value where nothing stands behind it
+-- a value if nothing stands after it
 abbrev pub at_end : {A : Type 0} → A → List ℕ → Option A
 at_end value [] = Some value
 at_end value (octet ∷ octets) = None
 
--- the interval that ends the line, or the usual one where the line ends without
+-- the interval that ends the line, or the usual one if the line ends without
 unfoldable pub last_interval : List ℕ → Option ℕ
 last_interval text = do
   interval ← field_if (codes " interval=") interval_in text

@@ -17,14 +17,14 @@ use std::marker::Model;
 use vrx_io::{Failed, Source};
 use vrx_num::NoMemory;
 
-/// How many octets are held at most: more than the longest line, so that a read has room behind it.
+/// How many octets are held at most: more than the longest line, so that a read has room after it.
 const ROOM: usize = 32_768;
 
 const LINE_FEED: u8 = b'\n';
 
 /// What stands at the front of the octets held.
 pub(crate) enum Found {
-    /// A line of `len` octets, with its line feed behind it where it isn't the last of its source.
+    /// A line of `len` octets, with its line feed after it if it isn't the last of its source.
     Line { len: usize },
     /// A line that is too long to be taken.
     TooLong,
@@ -32,7 +32,7 @@ pub(crate) enum Found {
     End,
 }
 
-/// The place of the first line feed, or the length where there is none, of octets of which the first `clear` are
+/// The place of the first line feed, or the length if there is none, of octets of which the first `clear` are
 /// none.
 #[tactic(auto, using(crate::proofs::PlaceLemmas::found_behind))]
 fn line_feed_from(octets: &[u8], clear: usize) -> usize
@@ -54,7 +54,7 @@ fn move_to_front(buffer: &mut Vec<u8>, start: usize, len: usize)
     buffer.copy_within(start..start + len, 0);
 }
 
-/// Makes room behind some octets, which begin at a place, and says where they begin then.
+/// Makes room after some octets, which begin at a place, and says where they begin then.
 fn make_room(buffer: &mut Vec<u8>, start: usize, len: usize) -> usize
     requires within { start + len ≤ vec_len buffer.old }
     requires room { len < vec_len buffer.old }
@@ -104,7 +104,7 @@ fn read_behind<S: Source>(source: &mut S, buffer: &mut Vec<u8>, at: usize) -> Re
     read_from(source, buffer.as_mut_slice(), at)
 }
 
-/// Reads behind the octets held, which are `len` from `start` on.
+/// Reads after the octets held, which are `len` from `start` on.
 #[tactic(auto, using(crate::proofs::HeldLemmas::grown, crate::proofs::HeldLemmas::same_held, crate::proofs::HeldLemmas::feed_grown))]
 fn read_held<S: Source>(
     source: &mut S,
@@ -133,8 +133,8 @@ fn read_held<S: Source>(
 }
 
 /// The octets that were read and not passed over yet, in a buffer of fixed size, and whether their source was read to
-/// its end. Where the buffer ends, they move to its front, so that an octet moves at most once, and is searched for a
-/// line feed once.
+/// its end. At the end of the buffer they move to its front, so that an octet moves at most once. It is searched for
+/// a line feed once.
 #[derive(Drop)]
 pub(crate) struct Held {
     buffer: Vec<u8>,
@@ -193,7 +193,7 @@ impl Held {
         self.clear = 0;
     }
 
-    /// Passes over a line of so many octets, and over the line feed behind it where there is one.
+    /// Passes over a line of so many octets, and over the line feed after it if there is one.
     #[tactic(auto, using(crate::proofs::HeldLemmas::length_held, crate::proofs::HeldLemmas::drop_beyond))]
     pub(crate) fn pass_line(&mut self, len: usize)
         requires { len ≤ length self.old.kept }
@@ -206,7 +206,7 @@ impl Held {
         }
     }
 
-    /// The place of the first line feed, or the number of octets held where there is none.
+    /// The place of the first line feed, or the number of octets held if there is none.
     #[tactic(auto, using(crate::proofs::HeldLemmas::length_held))]
     fn line_feed(&mut self) -> usize
         ensures place { result ≡ feed_place self.old.kept }
@@ -218,7 +218,7 @@ impl Held {
         place
     }
 
-    /// Reads once behind the octets held, or finds that their source is at its end. After `Failed` the same are held.
+    /// Reads once after the octets held, or finds that their source is at its end. After `Failed` the same are held.
     #[tactic(auto, using(crate::proofs::HeldLemmas::length_held, crate::proofs::HeldLemmas::same_held, crate::proofs::HeldLemmas::feed_le_append))]
     fn more<S: Source>(&mut self, source: &mut S) -> Result<(), Failed>
         requires short { length self.old.kept ≤ longest_line }
@@ -248,7 +248,7 @@ impl Held {
         self.len
     }
 
-    /// What stands at the front, where no line feed is held and nothing more comes.
+    /// What stands at the front, if no line feed is held and nothing more comes.
     #[tactic(auto, using(crate::proofs::HeldLemmas::length_held))]
     fn last(&self) -> Found
         requires no_feed { feed_place self.now.kept ≡ length self.now.kept }
@@ -263,7 +263,7 @@ impl Held {
         Found::Line { len }
     }
 
-    /// What stands at the front, where that is known; else more has to be read.
+    /// What stands at the front, if that is known. If not, more has to be read.
     #[tactic(auto, using(crate::proofs::PlaceLemmas::place_within))]
     fn known(&mut self) -> Option<Found>
         ensures same { self.new ≡ self.old }
@@ -282,7 +282,7 @@ impl Held {
         if self.ended { Some(self.last()) } else { None }
     }
 
-    /// What stands at the front: it reads on until that is known, and only where no whole line is held. After
+    /// What stands at the front: it reads on until that is known, and only if no whole line is held. After
     /// `Failed` what was read before is held.
     pub(crate) fn find<S: Source>(&mut self, source: &mut S) -> Result<Found, Failed>
         ensures found { IfOk result (IsFound self.new.kept self.new.ended) }

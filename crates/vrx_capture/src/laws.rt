@@ -20,15 +20,15 @@ pub fn one_line()
     ensures last { LastLine }
 {}
 
-/// How the answers of several calls join: the lines of whole lines and of what stands behind them, and what these
+/// How the answers of several calls join: the lines of whole lines and of what stands after them, and what these
 /// lines give. The function does nothing.
 pub fn lines_join()
     ensures lines { LinesJoin }
     ensures readings { ReadingsJoin }
 {}
 
-/// What the grammar of lines means. Digits are a number just where it is written so in decimal, as a transcript
-/// writes numbers too; and a line tells a datagram, a tick or a pull just where it is spelled so. The function
+/// What the grammar of lines means. Digits are a number exactly if it is written so in decimal, as a transcript
+/// writes numbers too; and a line reports a datagram, a tick or a pull exactly if it is spelled so. The function
 /// does nothing.
 pub fn lines_mean()
     ensures number { (most n : ℕ) (digits : List ℕ) → most < 2 ^ 64 →
@@ -41,8 +41,8 @@ pub fn lines_mean()
         ((event_in line ≡ Some (Pull m)) ↔ ((line ≡ codes "p " ++ decimal m) × (m ≤ latest_moment))) }
 {}
 
-/// What a line says, in words of octets: that it is bad for the first of the reasons that apply, where one does;
-/// nothing, where it is empty or a comment within the limits; and an event, where it tells it within the limits. The
+/// What a line says, in words of octets: that it is bad for the first of the reasons that apply, if one does;
+/// nothing, if it is empty or a comment within the limits; and an event, if it reports it within the limits. The
 /// function does nothing.
 pub fn reasons_mean()
     ensures wrong { (max k events : ℕ) (line : List ℕ) (reason : LineReason) →
@@ -54,9 +54,9 @@ pub fn reasons_mean()
         (events < max) × (event_in line ≡ Some event))) }
 {}
 
-/// What lines give, by what each of them is: they give these events and no bad line just where each says nothing or
-/// tells the next event; and line `j` is bad for a reason just where it is the first bad one among them, this is its
-/// first reason, and the lines before it give the events. The function does nothing.
+/// What lines give, by what each of them is. They give these events and no bad line exactly if each says nothing or
+/// reports the next event. Line `j` is bad for a reason exactly if it is the first bad one among them, this is its first
+/// reason, and the lines before it give the events. The function does nothing.
 pub fn readings_are()
     ensures good { (max k events : ℕ) (lines : List (List ℕ)) (given : List (ℕ × Event)) →
         ((reading max k events lines ≡ sound given) ↔ AreGood max k events lines given) }

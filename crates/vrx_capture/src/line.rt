@@ -17,10 +17,10 @@ pub(crate) const MOST_LINES: u32 = 2_097_152;
 /// The longest line that may be taken.
 pub(crate) const LONGEST_LINE: usize = 20_000;
 
-/// The greatest moment that a line tells: twelve digits.
+/// The greatest moment that a line reports: twelve digits.
 const LATEST_MOMENT: u64 = 999_999_999_999;
 
-/// What a line behind the settings line says.
+/// What a line after the settings line says.
 #[derive(Debug, Drop)]
 pub enum LineKind {
     /// Nothing: it is empty or a comment.
@@ -31,7 +31,7 @@ pub enum LineKind {
     Wrong(LineReason),
 }
 
-/// Why a line behind the settings line is bad. The first that applies counts, in this order.
+/// Why a line after the settings line is bad. The first that applies counts, in this order.
 #[derive(Clone, Copy, Debug, PartialEq, Eq)]
 pub enum LineReason {
     /// It is line 2,097,153.
@@ -44,9 +44,9 @@ pub enum LineReason {
     Events,
     /// What follows, up to the next space or the end, is no moment: 1 to 12 decimal digits without a leading zero.
     Moment,
-    /// Something stands behind the moment of a tick or a pull.
+    /// Something stands after the moment of a tick or a pull.
     End,
-    /// Behind the moment of a datagram doesn't stand a space and an even number, at least 2, of hexadecimal digits.
+    /// After the moment of a datagram doesn't stand a space and an even number, at least 2, of hexadecimal digits.
     Hex,
 }
 
@@ -64,42 +64,42 @@ fn is_blank(line: &[u8]) -> bool
     line.is_empty() || begins(b"#", line)
 }
 
-/// Whether a line tells a datagram.
+/// Whether a line reports a datagram.
 fn is_datagram(line: &[u8]) -> bool
     ensures { result ≡ is_datagram line.now }
 {
     begins(b"d ", line)
 }
 
-/// Whether a line tells a tick.
+/// Whether a line reports a tick.
 fn is_tick(line: &[u8]) -> bool
     ensures { result ≡ is_tick line.now }
 {
     begins(b"t ", line)
 }
 
-/// Whether a line tells an event.
+/// Whether a line reports an event.
 fn is_event(line: &[u8]) -> bool
     ensures { result ≡ is_event line.now }
 {
     is_datagram(line) || is_tick(line) || begins(b"p ", line)
 }
 
-/// The moment that an event line tells.
+/// The moment that an event line reports.
 fn moment_in(line: &[u8]) -> Option<u64>
     ensures { result ≡ moment_in line.now }
 {
     number_in(LATEST_MOMENT, word(from(line, 2)))
 }
 
-/// Whether an event line goes on behind its moment.
+/// Whether an event line goes on after its moment.
 fn has_more(line: &[u8]) -> bool
     ensures { result ≡ has_more line.now }
 {
     from(line, 2).contains(&b' ')
 }
 
-/// The octets that hexadecimal digits spell, where there are some.
+/// The octets that hexadecimal digits spell, if there are some.
 #[tactic(auto, unfolding(crate::specs::Line::octets_in))]
 fn octets_in(alloc: Global, digits: &[u8]) -> Result<Option<Vec<u8>>, NoMemory>
     ensures { IfOk result (λ octets. option_map (λ v. v.items) octets ≡ octets_in digits.now) }
@@ -117,7 +117,7 @@ fn octets_in(alloc: Global, digits: &[u8]) -> Result<Option<Vec<u8>>, NoMemory>
     }
 }
 
-/// The octets that a datagram's line tells.
+/// The octets that a datagram's line reports.
 fn bytes_in(alloc: Global, line: &[u8]) -> Result<Option<EventBytes>, NoMemory>
     ensures { IfOk result (λ bytes. bytes ≡ bytes_in line.now) }
 {
@@ -152,7 +152,7 @@ fn read_event(alloc: Global, line: &[u8]) -> Result<LineKind, NoMemory>
     }
 }
 
-/// What line `k` behind the settings line says, its line feed left out, behind this many event lines, of which a
+/// What line `k` after the settings line says, its line feed left out, after this many event lines, of which a
 /// capture has at most `max`. Lines count from 1.
 #[tactic(auto, using(crate::proofs::LineLemmas::blank_line), unfolding(crate::specs::Line::event_in, crate::specs::Line::event_line, crate::specs::Line::line_at))]
 pub fn read_line(

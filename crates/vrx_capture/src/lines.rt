@@ -52,7 +52,7 @@ pub enum HeadFault {
     NoMemory,
 }
 
-/// What line `k` says, behind this many event lines of at most `max`.
+/// What line `k` says, after this many event lines of at most `max`.
 fn kind_at(alloc: Global, max: u32, k: u32, events: u32, line: &[u8]) -> Result<LineKind, NoMemory>
     ensures kind { IfOk result (λ kind. kind ≡ line_at max k events line.now) }
     ensures within { IfOk result (IsWithin max k events) }
@@ -69,7 +69,7 @@ fn copied(alloc: Global, octets: &[u8]) -> Result<Vec<u8>, NoMemory>
 
 /// A reader of a capture: it gives the head line as it stands, and then event after event.
 ///
-/// It takes the memory for a fixed number of octets once, reads only where it holds no whole line that says
+/// It takes the memory for a fixed number of octets once, reads only while it holds no whole line that says
 /// something, and never again once its source was at its end.
 #[derive(Drop)]
 pub struct Lines {
@@ -165,7 +165,7 @@ impl Lines {
         LineFault::Bad { k, reason }
     }
 
-    /// Says that the next line is too long, where it isn't one too many.
+    /// Says that the next line is too long, if it isn't one too many.
     fn refuse_long(&mut self) -> LineFault
         ensures bad { self.new ≡ record self.old { bad = Some (self.old.given + 1, long_reason (self.old.given + 1)) } }
         ensures fault { result ≡ LineFault.Bad (self.old.given + 1) (long_reason (self.old.given + 1)) }
@@ -281,8 +281,8 @@ impl Lines {
         Ok(line)
     }
 
-    /// The next line as it stands, without its line feed: the settings line is read so. `None` where no line is left,
-    /// where it has more than 20,000 octets, or where 2,097,152 lines were given before; that line is the next still.
+    /// The next line as it stands, without its line feed: the settings line is read so. `None` if no line is left,
+    /// if it has more than 20,000 octets, or if 2,097,152 lines were given before; that line is the next still.
     ///
     /// After an error what was read is kept, and the next call goes on with the same line.
     pub fn head<S: Source>(&mut self, source: &mut S) -> Result<Option<Vec<u8>>, HeadFault>

@@ -16,7 +16,7 @@ use crate::words::{behind, from_space, number_in, word};
 use hex::FromHex;
 use vrx_core::{Red, Rtx, Settings};
 
-/// The interval of requests where the settings line tells none, in milliseconds.
+/// The interval of requests if the settings line reports none, in milliseconds.
 const USUAL_INTERVAL: u32 = 100;
 
 /// The codec that a settings line names.
@@ -85,7 +85,7 @@ fn interval_in(digits: &[u8]) -> Option<u32>
     }
 }
 
-/// The codec of a field with this name, and what stands behind the field.
+/// The codec of a field with this name, and what stands after the field.
 #[tactic(auto, unfolding(crate::specs::SettingsLine::field))]
 fn codec_field<'a>(name: &[u8], text: &'a [u8]) -> Option<(CodecName, &'a [u8])>
     ensures { option_map (λ x. (x.0, x.1.now)) result ≡ field name.now codec_in text.now }
@@ -95,7 +95,7 @@ fn codec_field<'a>(name: &[u8], text: &'a [u8]) -> Option<(CodecName, &'a [u8])>
     Some((codec, from_space(told)))
 }
 
-/// The SSRC of a field with this name, and what stands behind the field.
+/// The SSRC of a field with this name, and what stands after the field.
 #[tactic(auto, unfolding(crate::specs::SettingsLine::field))]
 fn ssrc_field<'a>(name: &[u8], text: &'a [u8]) -> Option<(u32, &'a [u8])>
     ensures { option_map (λ x. (x.0, x.1.now)) result ≡ field name.now ssrc_in text.now }
@@ -105,7 +105,7 @@ fn ssrc_field<'a>(name: &[u8], text: &'a [u8]) -> Option<(u32, &'a [u8])>
     Some((ssrc, from_space(told)))
 }
 
-/// The payload type of a field with this name, and what stands behind the field.
+/// The payload type of a field with this name, and what stands after the field.
 #[tactic(auto, unfolding(crate::specs::SettingsLine::field))]
 fn type_field<'a>(name: &[u8], text: &'a [u8]) -> Option<(u8, &'a [u8])>
     ensures { option_map (λ x. (x.0, x.1.now)) result ≡ field name.now type_in text.now }
@@ -115,7 +115,7 @@ fn type_field<'a>(name: &[u8], text: &'a [u8]) -> Option<(u8, &'a [u8])>
     Some((payload_type, from_space(told)))
 }
 
-/// The interval of a field with this name, and what stands behind the field.
+/// The interval of a field with this name, and what stands after the field.
 #[tactic(auto, unfolding(crate::specs::SettingsLine::field))]
 fn interval_field<'a>(name: &[u8], text: &'a [u8]) -> Option<(u32, &'a [u8])>
     ensures { option_map (λ x. (x.0, x.1.now)) result ≡ field name.now interval_in text.now }
@@ -125,7 +125,7 @@ fn interval_field<'a>(name: &[u8], text: &'a [u8]) -> Option<(u32, &'a [u8])>
     Some((interval, from_space(told)))
 }
 
-/// The payload type of a field with this name, where the text begins with it, and what stands behind it.
+/// The payload type of a field with this name, if the text begins with it, and what stands after it.
 #[tactic(auto, unfolding(crate::specs::SettingsLine::part))]
 fn type_field_if<'a>(name: &[u8], text: &'a [u8]) -> Option<(Option<u8>, &'a [u8])>
     ensures { option_map (λ x. (x.0, x.1.now)) result ≡ field_if name.now type_in text.now }
@@ -137,7 +137,7 @@ fn type_field_if<'a>(name: &[u8], text: &'a [u8]) -> Option<(Option<u8>, &'a [u8
     Some((Some(payload_type), rest))
 }
 
-/// The interval of a field with this name, where the text begins with it, and what stands behind it.
+/// The interval of a field with this name, if the text begins with it, and what stands after it.
 #[tactic(auto, unfolding(crate::specs::SettingsLine::part))]
 fn interval_field_if<'a>(name: &[u8], text: &'a [u8]) -> Option<(Option<u32>, &'a [u8])>
     ensures { option_map (λ x. (x.0, x.1.now)) result ≡ field_if name.now interval_in text.now }
@@ -149,7 +149,7 @@ fn interval_field_if<'a>(name: &[u8], text: &'a [u8]) -> Option<(Option<u32>, &'
     Some((Some(interval), rest))
 }
 
-/// The payload types of RED, and what stands behind them.
+/// The payload types of RED, and what stands after them.
 #[tactic(auto, unfolding(crate::specs::SettingsLine::red_in))]
 fn red_in(text: &[u8]) -> Option<(Red, &[u8])>
     ensures { option_map (λ x. (x.0, x.1.now)) result ≡ red_in text.now }
@@ -159,7 +159,7 @@ fn red_in(text: &[u8]) -> Option<(Red, &[u8])>
     Some((Red { red_type, fec_type }, rest))
 }
 
-/// The payload types of RED, where the text begins with them, and what stands behind them.
+/// The payload types of RED, if the text begins with them, and what stands after them.
 #[tactic(auto, unfolding(crate::specs::SettingsLine::part))]
 fn red_if(text: &[u8]) -> Option<(Option<Red>, &[u8])>
     ensures { option_map (λ x. (x.0, x.1.now)) result ≡ part (codes " red=") red_in text.now }
@@ -171,7 +171,7 @@ fn red_if(text: &[u8]) -> Option<(Option<Red>, &[u8])>
     Some((Some(red), rest))
 }
 
-/// The stream of retransmissions, and what stands behind it.
+/// The stream of retransmissions, and what stands after it.
 #[tactic(auto, unfolding(crate::specs::SettingsLine::rtx_in))]
 fn rtx_in(text: &[u8]) -> Option<(Rtx, &[u8])>
     ensures { option_map (λ x. (x.0, x.1.now)) result ≡ rtx_in text.now }
@@ -187,7 +187,7 @@ fn rtx_in(text: &[u8]) -> Option<(Rtx, &[u8])>
     Some((rtx, rest))
 }
 
-/// The stream of retransmissions, where the text begins with it, and what stands behind it.
+/// The stream of retransmissions, if the text begins with it, and what stands after it.
 #[tactic(auto, unfolding(crate::specs::SettingsLine::part))]
 fn rtx_if(text: &[u8]) -> Option<(Option<Rtx>, &[u8])>
     ensures { option_map (λ x. (x.0, x.1.now)) result ≡ part (codes " rtxssrc=") rtx_in text.now }
@@ -199,7 +199,7 @@ fn rtx_if(text: &[u8]) -> Option<(Option<Rtx>, &[u8])>
     Some((Some(rtx), rest))
 }
 
-/// The interval that ends the line, or the usual one where the line ends without.
+/// The interval that ends the line, or the usual one if the line ends without.
 #[tactic(auto, unfolding(crate::specs::SettingsLine::last_interval))]
 fn last_interval(text: &[u8]) -> Option<u32>
     ensures { result ≡ last_interval text.now }
@@ -212,8 +212,8 @@ fn last_interval(text: &[u8]) -> Option<u32>
     }
 }
 
-/// The codec and the settings that the settings line tells, the first line of a capture: `None` where the line isn't
-/// one. An interval that isn't told is 100 milliseconds. It takes no memory.
+/// The codec and the settings that the settings line reports, the first line of a capture: `None` if the line isn't
+/// one. An interval that is absent is 100 milliseconds. It takes no memory.
 ///
 /// Settings that read may still be refused by `vrx_core::Engine::new`, as those with a payload type of 64 are.
 #[tactic(auto, unfolding(crate::specs::SettingsLine::settings_in))]

@@ -5,7 +5,7 @@ ghost use Rattle.std.specs.List.{position_or_len};
 ghost use Rattle.std.specs.Option.{option_map};
 ghost use Rattle.vrx_capture.specs.Words.{behind, word, behind_word, number_in, from_space};
 
-/// The octets from a place on: none where the text ends before it.
+/// The octets from a place on: none if the text ends before it.
 pub(crate) fn from(text: &[u8], at: usize) -> &[u8]
     ensures { result.now ≡ drop at text.now }
 {
@@ -20,7 +20,7 @@ pub(crate) fn upto(text: &[u8], at: usize) -> &[u8]
     &text[..at]
 }
 
-/// The place of the first such octet, or the length where there is none.
+/// The place of the first such octet, or the length if there is none.
 pub(crate) fn place_of(text: &[u8], octet: u8) -> usize
     ensures place { result ≡ position_or_len (λ o. o == octet) text.now }
     ensures within { result ≤ length text.now }
@@ -33,7 +33,7 @@ pub(crate) fn place_of(text: &[u8], octet: u8) -> usize
     text.len()
 }
 
-/// The octets before the first space, or all where there is none.
+/// The octets before the first space, or all if there is none.
 #[tactic(auto, unfolding(crate::specs::Words::word))]
 pub(crate) fn word(text: &[u8]) -> &[u8]
     ensures { result.now ≡ word text.now }
@@ -41,7 +41,7 @@ pub(crate) fn word(text: &[u8]) -> &[u8]
     upto(text, place_of(text, b' '))
 }
 
-/// The octets behind the first space: none where there is none.
+/// The octets after the first space: none if there is none.
 #[tactic(auto, unfolding(crate::specs::Words::behind_word))]
 pub(crate) fn behind_word(text: &[u8]) -> &[u8]
     ensures { result.now ≡ behind_word text.now }
@@ -49,7 +49,7 @@ pub(crate) fn behind_word(text: &[u8]) -> &[u8]
     from(text, place_of(text, b' ') + 1)
 }
 
-/// What stands behind these octets, where the text begins with them.
+/// What stands after these octets, if the text begins with them.
 #[tactic(auto, unfolding(crate::specs::Words::behind))]
 pub(crate) fn behind<'a>(prefix: &[u8], text: &'a [u8]) -> Option<&'a [u8]>
     ensures { option_map (λ rest. rest.now) result ≡ behind prefix.now text.now }
@@ -67,7 +67,7 @@ pub(crate) fn behind<'a>(prefix: &[u8], text: &'a [u8]) -> Option<&'a [u8]>
     }
 }
 
-/// The number that these digits spell in decimal, where it is at most so much.
+/// The number that these digits spell in decimal, if it is at most so much.
 #[tactic(auto, unfolding(crate::specs::Words::number_in, crate::specs::Words::number_from))]
 pub(crate) fn number_in(most: u64, digits: &[u8]) -> Option<u64>
     requires { most < 2 ^ 60 }
@@ -91,7 +91,7 @@ pub(crate) fn number_in(most: u64, digits: &[u8]) -> Option<u64>
     Some(value)
 }
 
-/// The octets from the first space on: none where there is none.
+/// The octets from the first space on: none if there is none.
 #[tactic(auto, unfolding(crate::specs::Words::from_space))]
 pub(crate) fn from_space(text: &[u8]) -> &[u8]
     ensures { result.now ≡ from_space text.now }

@@ -258,7 +258,7 @@ fn tick_line(alloc: Global, k: u32) -> Result<Vec<u8>, NoMemory>
 /// The lines of the reply to the datagram of line `k`: what became of it, each packet that it repaired, in order, and
 /// the feedback, first the NACK and then the PLI.
 ///
-/// It fails only for want of memory.
+/// It fails only if it is out of memory.
 #[tactic(auto, unfolding(crate::specs::Transcript::text_of))]
 pub fn text_of_handled(alloc: Global, k: u32, reply: &Handled) -> Result<Vec<u8>, NoMemory>
     ensures text { IfOk result (λ text. text.items ≡ text_of k (ToDatagram reply.now)) }
@@ -272,7 +272,7 @@ pub fn text_of_handled(alloc: Global, k: u32, reply: &Handled) -> Result<Vec<u8>
 /// The lines of the reply to the tick of line `k`: that it was one, and the feedback, first the NACK and then the
 /// PLI.
 ///
-/// It fails only for want of memory.
+/// It fails only if it is out of memory.
 #[tactic(auto, unfolding(crate::specs::Transcript::text_of))]
 pub fn text_of_tick(alloc: Global, k: u32, feedback: &Feedback) -> Result<Vec<u8>, NoMemory>
     ensures text { IfOk result (λ text. text.items ≡ text_of k (ToTick feedback.now)) }
@@ -282,7 +282,7 @@ pub fn text_of_tick(alloc: Global, k: u32, feedback: &Feedback) -> Result<Vec<u8
     Ok(text)
 }
 
-/// The line of the reply to the pull of line `k`. It fails only for want of memory.
+/// The line of the reply to the pull of line `k`. It fails only if it is out of memory.
 #[tactic(auto, unfolding(crate::specs::Transcript::text_of))]
 pub fn text_of_pulled(alloc: Global, k: u32, reply: &Pulled) -> Result<Vec<u8>, NoMemory>
     ensures text { IfOk result (λ text. text.items ≡ text_of k (ToPull reply.now)) }
@@ -319,7 +319,7 @@ fn error_reason_text(reason: ErrorReason) -> &'static str
     }
 }
 
-/// The last line of a transcript, where line `k` is bad for this reason. It fails only for want of memory.
+/// The last line of a transcript, if line `k` is bad for this reason. It fails only if it is out of memory.
 #[tactic(auto, unfolding(crate::specs::Transcript::error_line))]
 pub fn text_of_error(alloc: Global, k: u32, reason: ErrorReason) -> Result<Vec<u8>, NoMemory>
     ensures text { IfOk result (λ text. text.items ≡ error_line k reason) }

@@ -84,8 +84,8 @@ fn story<S: Source>(
 }
 
 // How many octets a read gives is all the same, and so is a last line without its line feed. A read that fails is
-// told, and the next call goes on with the same line: read 3 of three octets each ends the first line, read 4 finds
-// the end, and there is no read 5.
+// reported, and the next call goes on with the same line: read 3 of three octets each ends the first line, read 4
+// finds the end, and there is no read 5.
 #[test]
 fn events_are_given(rt: HostRuntime) -> Result<(), Fail> {
     let twice = "p 12\np 34";

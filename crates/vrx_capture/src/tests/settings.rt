@@ -5,7 +5,7 @@ use std::alloc::{AllocError, Global};
 use std::test::Fail;
 use vrx_core::{Red, Rtx, Settings};
 
-/// What a line tells if all that may be absent is.
+/// What a line reports if all that may be absent is.
 const PLAIN: Settings = Settings {
     media_ssrc: 0x00c0_ffee,
     media_type: 96,
@@ -32,7 +32,7 @@ fn rtx(red_rtx_type: Option<u8>) -> Option<Rtx> {
     })
 }
 
-/// Whether these parts between the SSRC and the end of a line tell the settings.
+/// Whether these parts between the SSRC and the end of a line report the settings.
 fn tells(alloc: Global, parts: &str, settings: Settings) -> Result<bool, AllocError> {
     let line = format!(in alloc; "vrx 1 codec=vp8 ssrc=00c0ffee {parts}")?;
     Ok(read_settings(line.as_bytes()) == Some((CodecName::Vp8, settings)))

@@ -7,13 +7,13 @@ use Rattle.vrx_capture.specs.Ahead.{ahead}
 use Rattle.vrx_capture.proofs.AheadLemmas.{ahead-gives}
 use Rattle.vrx_capture.proofs.held.read_from.Goals as goal
 
--- behind a place, a buffer holds what was written there
+-- after a place, a buffer holds what was written there
 drop-put_mid_rest : (buffer tail : List ℕ) (at : ℕ) → at ≤ length buffer → length tail ≡ length buffer - at → drop at (put_mid at (length buffer - at) buffer tail) ≡ tail
 drop-put_mid_rest buffer tail at within len =
     let none : post_of at (length buffer - at) buffer ≡ [] = drop_all _ (drop at buffer) (omega (arith, length-drop at buffer)) in
     drop_at (take at buffer) (tail ++ post_of at (length buffer - at) buffer) at (length-take-le at buffer within) ∙ rw none (append-nil tail)
 
--- what a read gave stands behind that place
+-- what a read gave stands after that place
 gives_behind : (before after : Option (List ℕ)) (buffer tail : List ℕ) (at n : ℕ) → at ≤ length buffer → length tail ≡ length buffer - at → is_some after ≡ is_some before → Gives before after n tail → before ≡ ahead (take n (drop at (put_mid at (length buffer - at) buffer tail))) after
 gives_behind before after buffer tail at n within len tells gives = rw (drop-put_mid_rest buffer tail at within len) (ahead-gives before after n tail gives tells)
 

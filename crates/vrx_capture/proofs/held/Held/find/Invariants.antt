@@ -4,7 +4,7 @@ use Rattle.vrx_capture.specs.Line.{IsPart}
 use Rattle.vrx_capture.specs.Held.{ReadsOn}
 use Rattle.vrx_capture.proofs.held.Held.find.Given as goal
 
--- what was read stands behind what was held, and each read was made when a part of a line was held
+-- what was read stands after what was held, and each read was made when a part of a line was held
 abbrev pub invariant-reads : goal.invariant-reads
 invariant-reads g l = record {
   reads : (reads : ReadsOn l.initial.self l.self (g.S.Source.left l.initial.source) (g.S.Source.left l.source)) × ReadsSo g.S.Source.is_read IsPart l.initial.self.kept l.initial.source l.source reads.read;
