@@ -11,7 +11,6 @@ use Rattle.vrx_capture.specs.Line.{lines_of, longest_line}
 use Rattle.vrx_capture.specs.Reading.{Reading, reading}
 use Rattle.vrx_capture.specs.SettingsLine.{settings_in}
 use Rattle.vrx_text.specs.Inspection.{inspection}
-use Rattle.vrx_capture.specs.declared.line.LineReason.{LineReason}
 use Rattle.vrx_capture.specs.declared.settings_line.CodecName.{CodecName}
 use Rattle.vrx_text.specs.declared.transcript.ErrorReason.{ErrorReason}
 use Rattle.vrx_text.specs.declared.transcript.ErrorReason.TheVariants as errors

@@ -1,4 +1,5 @@
 pub mod OnLiterals
+pub mod KeepsLemmas
 pub mod WordLemmas
 pub mod InspectionLemmas
 pub mod InspectionRows
