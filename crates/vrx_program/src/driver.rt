@@ -103,6 +103,7 @@ fn step<J: Job, S: Source, K: Sink>(
     ensures read_later { S.faults source.old ≤ S.faults source.new }
     ensures write_later { K.faults sink.old ≤ K.faults sink.new }
 {
+    // A law: the lines of whole lines and of what stands after them join, and so does what they give.
     lines_join();
     match lines.next(source) {
         Ok(Line::Event { k, event }) => answer(alloc, job, k, &event, text, sink),
@@ -136,7 +137,9 @@ fn begin<J: Job, S: Source, K: Sink>(
     ensures read_later { S.faults source.old ≤ S.faults source.new }
     ensures write_later { K.faults sink.old ≤ K.faults sink.new }
 {
+    // A law: the lines of whole lines and of what stands after them join, and so does what they give.
     lines_join();
+    // A law: a capture without a first line that may be taken is refused.
     J::refuses_heads();
     let line = match lines.head(source) {
         Ok(Some(line)) => line,

@@ -181,6 +181,7 @@ fn rtcp_computes()
     ensures { (k : ℕ) (octets line : List ℕ) → IsRtcp octets → IsInspection k octets line →
         line ≡ line_of_rtcp k (words_in octets) }
 {
+    // A law: octets begin with one RTCP packet at most, and if they begin with one there is no fault.
     one_packet();
 }
 
@@ -231,6 +232,7 @@ pub fn inspect_text(alloc: Global, k: u32, bytes: &[u8]) -> Result<Vec<u8>, NoMe
     ensures only { (line : List ℕ) → IsInspection k bytes.now line →
         IfOk result (λ text. text.items ≡ line) }
 {
+    // A law: the line of RTCP that the definition computes is the only one that an inspection can have.
     rtcp_computes();
     if is_rtcp(bytes) {
         inspect_rtcp(alloc, k, bytes)

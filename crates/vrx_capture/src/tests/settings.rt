@@ -90,6 +90,7 @@ fn settings_are_read(rt: HostRuntime) -> Result<(), Fail> {
     ] {
         assert_eq!(rt; read_settings(line.as_bytes()), want, "{line}");
     }
+    // A law: a line spells a codec and settings exactly if it is read as them.
     settings_lines_mean();
     Ok(())
 }
