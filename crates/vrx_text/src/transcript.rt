@@ -280,7 +280,7 @@ pub fn write_handled(text: &mut Vec<u8>, k: u32, reply: &Handled) -> Result<(), 
     }
 }
 
-/// The same in memory of its own. It fails only if it is out of memory.
+/// What [`write_handled`] writes, in memory of its own. It fails only if it is out of memory.
 pub fn text_of_handled(alloc: Global, k: u32, reply: &Handled) -> Result<Vec<u8>, NoMemory>
     ensures text { IfOk result (λ text. text.items ≡ text_of k (ToDatagram reply.now)) }
 {
@@ -308,7 +308,7 @@ pub fn write_tick(text: &mut Vec<u8>, k: u32, feedback: &Feedback) -> Result<(),
     }
 }
 
-/// The same in memory of its own. It fails only if it is out of memory.
+/// What [`write_tick`] writes, in memory of its own. It fails only if it is out of memory.
 pub fn text_of_tick(alloc: Global, k: u32, feedback: &Feedback) -> Result<Vec<u8>, NoMemory>
     ensures text { IfOk result (λ text. text.items ≡ text_of k (ToTick feedback.now)) }
 {
@@ -335,7 +335,7 @@ pub fn write_pulled(text: &mut Vec<u8>, k: u32, reply: &Pulled) -> Result<(), No
     }
 }
 
-/// The same in memory of its own. It fails only if it is out of memory.
+/// What [`write_pulled`] writes, in memory of its own. It fails only if it is out of memory.
 pub fn text_of_pulled(alloc: Global, k: u32, reply: &Pulled) -> Result<Vec<u8>, NoMemory>
     ensures text { IfOk result (λ text. text.items ≡ text_of k (ToPull reply.now)) }
 {
