@@ -2,6 +2,7 @@
 
 use crate::{
     ErrorReason, inspect_text, text_of_error, text_of_handled, text_of_pulled, text_of_tick,
+    write_handled, write_pulled, write_tick,
 };
 use arrayvec::ArrayVec;
 use std::alloc::Global;
@@ -114,5 +115,17 @@ fn repairs_and_feedback_are_written(rt: HostRuntime) -> Result<(), Fail> {
         let want = format!(in rt.alloc(); "9 tick\n{sent}")?;
         assert_eq!(rt; text.as_slice(), want.as_bytes());
     }
+    Ok(())
+}
+
+// A buffer that is used again holds one text after the other.
+#[test]
+fn texts_stand_one_after_the_other(rt: HostRuntime) -> Result<(), Fail> {
+    let mut text = Vec::new(rt.alloc());
+    write_handled(&mut text, 9, &plain(rt.alloc(), What::Rtcp))?;
+    write_tick(&mut text, 10, &feedback(false, true))?;
+    write_pulled(&mut text, 11, &Pulled::NotReady)?;
+    let want = b"9 rtcp\n10 tick\n10 pli 81ce00021234567800c0ffee\n11 notready\n";
+    assert_eq!(rt; text.as_slice(), want.as_slice());
     Ok(())
 }
