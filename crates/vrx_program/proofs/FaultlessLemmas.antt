@@ -7,9 +7,9 @@ use Rattle.vrx_core.specs.machine.SettingsFault.{fault_of}
 use Rattle.vrx_core.specs.declared.settings.Settings.{Settings}
 use Rattle.vrx_core.specs.declared.settings.NewFault.{NewFault}
 use Rattle.vrx_core.specs.declared.settings.NewFault.TheVariants as faults
-use Rattle.vrx_text.specs.Line.{lines_of, longest_line}
-use Rattle.vrx_text.specs.SettingsLine.{settings_in}
-use Rattle.vrx_text.specs.declared.settings_line.CodecName.{CodecName}
+use Rattle.vrx_capture.specs.Line.{lines_of, longest_line}
+use Rattle.vrx_capture.specs.SettingsLine.{settings_in}
+use Rattle.vrx_capture.specs.declared.settings_line.CodecName.{CodecName}
 use Rattle.vrx_text.specs.declared.transcript.ErrorReason.{ErrorReason}
 use Rattle.vrx_text.specs.declared.transcript.ErrorReason.TheVariants as errors
 use Rattle.vrx_program.specs.Replay.{taken, accepted, settings_of, Call, call_with, call_from, call_in, call_of}

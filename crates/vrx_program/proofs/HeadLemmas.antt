@@ -1,13 +1,12 @@
 -- How a run begins and ends by its first line, whatever it gives of captures.
-use Rattle.std.proofs.Common.{◌≡◌, ◌⊎◌, ◌≤◌, ℕ, length, true, false, List, [], ◌∷◌, ◌++◌, sym, ap, subst, ◌∙◌, inl, inr, refl, arith}
+use Rattle.std.proofs.Common.{◌≡◌, ◌⊎◌, ◌≤◌, ℕ, length, true, false, List, [], ◌∷◌, ◌++◌, sym, ap, subst, ◌∙◌, inl, inr, refl}
 use Rattle.std.specs.Prelude.{Option, Some, None}
 use Rattle.vrx_io.specs.Source.{IsSpent}
 use Rattle.vrx_io.specs.Sink.{extended}
-use Rattle.vrx_text.specs.Line.{lines_of, longest_line}
-use Rattle.vrx_text.specs.Ahead.{ahead}
-use Rattle.vrx_text.specs.Reader.{Reader, opening, Passes, MayFollow, HasNoHead, HasNoFeed, IsHead, IsHeadFault}
-use Rattle.vrx_text.specs.declared.lines.HeadFault.TheVariants as heads
-use Rattle.vrx_text.specs.Joins.{LinesJoin, ReadingsJoin}
+use Rattle.vrx_capture.specs.Line.{lines_of, longest_line}
+use Rattle.vrx_capture.specs.Ahead.{ahead}
+use Rattle.vrx_capture.specs.Reader.{Reader, opening, Passes, MayFollow, HasNoHead, HasNoFeed, IsHead}
+use Rattle.vrx_capture.specs.Joins.{LinesJoin, ReadingsJoin}
 use Rattle.vrx_text.specs.Transcript.{error_line}
 use Rattle.vrx_text.specs.declared.transcript.ErrorReason.{ErrorReason}
 use Rattle.vrx_text.specs.declared.transcript.ErrorReason.TheVariants as errors

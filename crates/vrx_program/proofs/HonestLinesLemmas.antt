@@ -11,16 +11,16 @@ use Rattle.vrx_core.specs.honest.HonestCall.{HonestCallHolds}
 use Rattle.vrx_core.specs.declared.settings.Settings.{Settings}
 use Rattle.vrx_core.specs.declared.event.Event.{Event}
 use Rattle.vrx_core.specs.declared.event.Event.TheVariants.{Datagram, Tick, Pull}
-use Rattle.vrx_text.specs.Line.{lines_of, line_at}
-use Rattle.vrx_text.specs.Reading.{Reading, event_count, with_line, reading}
-use Rattle.vrx_text.specs.Reader.{AreWhole}
-use Rattle.vrx_text.specs.Joins.{LinesJoin}
-use Rattle.vrx_text.specs.declared.line.LineKind.{LineKind}
-use Rattle.vrx_text.specs.declared.line.LineKind.TheVariants.{Blank, Happens, Wrong}
+use Rattle.vrx_capture.specs.Line.{lines_of, line_at}
+use Rattle.vrx_capture.specs.Reading.{Reading, event_count, with_line, reading}
+use Rattle.vrx_capture.specs.Reader.{AreWhole}
+use Rattle.vrx_capture.specs.Joins.{LinesJoin}
+use Rattle.vrx_capture.specs.declared.line.LineKind.{LineKind}
+use Rattle.vrx_capture.specs.declared.line.LineKind.TheVariants.{Blank, Happens, Wrong}
 use Rattle.vrx_text.specs.declared.transcript.ErrorReason.{ErrorReason}
 use Rattle.vrx_text.specs.Transcript.{text_of, transcript}
 use Rattle.vrx_program.specs.Outcome.{text_of_outcome, error_text, refused}
-use Rattle.vrx_text.specs.declared.settings_line.CodecName.{CodecName}
+use Rattle.vrx_capture.specs.declared.settings_line.CodecName.{CodecName}
 use Rattle.vrx_program.specs.Replay.{meaning_of, settings_of, most_events, before_tick, Call, call_with, call_from, call_in, call_of, outcome_of, replayed}
 use Rattle.vrx_program.specs.Ends.{TookFront, TookLines, Ends, EndsOver}
 use Rattle.vrx_program.specs.Job.{history_after}

@@ -4,10 +4,10 @@ use Rattle.std.specs.Prelude.{Option, None}
 use Rattle.std.specs.Option.{option_map}
 use Rattle.std.proofs.lemmas.Bool.{lt-ltb, le-ltb}
 use Rattle.vrx_core.specs.declared.event.Event.{Event}
-use Rattle.vrx_text.specs.Line.{lines_of, longest_line}
-use Rattle.vrx_text.specs.SettingsLine.{settings_in}
-use Rattle.vrx_text.specs.Reading.{Reading, reading}
-use Rattle.vrx_text.specs.Reader.{HasNoHead}
+use Rattle.vrx_capture.specs.Line.{lines_of, longest_line}
+use Rattle.vrx_capture.specs.SettingsLine.{settings_in}
+use Rattle.vrx_capture.specs.Reading.{Reading, reading}
+use Rattle.vrx_capture.specs.Reader.{HasNoHead}
 use Rattle.vrx_text.specs.declared.transcript.ErrorReason.{ErrorReason}
 use Rattle.vrx_text.specs.declared.transcript.ErrorReason.TheVariants as errors
 use Rattle.vrx_program.specs.Heads.{RefusesHeads}

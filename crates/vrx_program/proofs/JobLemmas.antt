@@ -3,10 +3,10 @@ use Rattle.std.proofs.Common.{◌≡◌, ℕ, List, [], ◌∷◌, ◌++◌, ref
 use Rattle.std.specs.Prelude.{Option, Some, None}
 use Rattle.std.proofs.lemmas.Option.{none-some}
 use Rattle.vrx_core.specs.declared.event.Event.{Event}
-use Rattle.vrx_text.specs.Reading.{Reading, sound, bad_at}
-use Rattle.vrx_text.specs.Joins.{behind_events}
+use Rattle.vrx_capture.specs.Reading.{Reading, sound, bad_at}
+use Rattle.vrx_capture.specs.Joins.{behind_events}
 use Rattle.vrx_text.specs.Transcript.{error_line}
-use Rattle.vrx_text.specs.declared.line.LineReason.{LineReason}
+use Rattle.vrx_capture.specs.declared.line.LineReason.{LineReason}
 use Rattle.vrx_text.specs.declared.transcript.ErrorReason.{ErrorReason}
 use Rattle.vrx_text.specs.declared.transcript.ErrorReason.TheVariants as errors
 use Rattle.vrx_program.specs.Outcome.{Outcome, status_of, error_text}

@@ -6,13 +6,13 @@ use Rattle.std.proofs.lemmas.List.{length-append}
 use Rattle.std.proofs.lemmas.Option.{same_Some, none-some}
 use Rattle.vrx_io.specs.Source.{IsSpent}
 use Rattle.vrx_core.specs.declared.event.Event.{Event}
-use Rattle.vrx_text.specs.Line.{lines_of}
-use Rattle.vrx_text.specs.Reading.{Reading, sound, bad_at, reading}
-use Rattle.vrx_text.specs.Ahead.{ahead}
-use Rattle.vrx_text.specs.Reader.{Reader, opening, says, AreWhole, MayFollow, Passes, AllSayBad}
+use Rattle.vrx_capture.specs.Line.{lines_of}
+use Rattle.vrx_capture.specs.Reading.{Reading, sound, bad_at, reading}
+use Rattle.vrx_capture.specs.Ahead.{ahead}
+use Rattle.vrx_capture.specs.Reader.{Reader, opening, says, AreWhole, MayFollow, Passes, AllSayBad}
 use Rattle.vrx_program.specs.HasRead.{HasRead}
-use Rattle.vrx_text.specs.Joins.{LinesJoin, ReadingsJoin, behind_events}
-use Rattle.vrx_text.specs.declared.line.LineReason.{LineReason}
+use Rattle.vrx_capture.specs.Joins.{LinesJoin, ReadingsJoin, behind_events}
+use Rattle.vrx_capture.specs.declared.line.LineReason.{LineReason}
 
 pub ahead-twice : (a b : List ℕ) (left : Option (List ℕ)) → ahead a (ahead b left) ≡ ahead (a ++ b) left
 unfolding ahead

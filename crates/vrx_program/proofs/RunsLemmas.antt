@@ -1,17 +1,17 @@
 -- What each call of the reader and each event add to a run, and how a run ends.
 use Rattle.std.proofs.Common.{◌≡◌, ◌⊎◌, ◌≤◌, ℕ, true, false, List, [], ◌∷◌, ◌++◌, length, take, refl, sym, ap, subst, ◌∙◌, inl, inr, append_assoc, append-nil, arith}
-use Rattle.std.specs.Prelude.{Option, Some, None, Ok, Err, is_some, MatchOption}
+use Rattle.std.specs.Prelude.{Option, Some, None, Ok, is_some, MatchOption}
 use Rattle.vrx_io.specs.Sink.{extended}
 use Rattle.vrx_io.specs.Reads.{ReadsSo}
 use Rattle.vrx_core.specs.declared.event.Event.{Event}
-use Rattle.vrx_text.specs.Line.{lines_of, longest_line, IsPart}
-use Rattle.vrx_text.specs.Reading.{Reading, sound, reading}
-use Rattle.vrx_text.specs.Ahead.{ahead}
-use Rattle.vrx_text.specs.Reader.{Reader, opening, says, AreWhole, HasNoFeed, HasNoHead, MayFollow, Passes, IsNext, IsHead, AllSayBad, SayNothing}
-use Rattle.vrx_text.specs.Joins.{LinesJoin, ReadingsJoin, behind_events}
+use Rattle.vrx_capture.specs.Line.{lines_of, longest_line, IsPart}
+use Rattle.vrx_capture.specs.Reading.{sound, reading}
+use Rattle.vrx_capture.specs.Ahead.{ahead}
+use Rattle.vrx_capture.specs.Reader.{Reader, opening, says, AreWhole, HasNoFeed, Passes, IsNext, IsHead, AllSayBad, SayNothing}
+use Rattle.vrx_capture.specs.Joins.{LinesJoin, ReadingsJoin}
 use Rattle.vrx_text.specs.Transcript.{error_line}
-use Rattle.vrx_text.specs.declared.line.LineReason.{LineReason}
-use Rattle.vrx_text.specs.declared.lines.Line.TheVariants as lines
+use Rattle.vrx_capture.specs.declared.line.LineReason.{LineReason}
+use Rattle.vrx_capture.specs.declared.lines.Line.TheVariants as lines
 use Rattle.vrx_text.specs.declared.transcript.ErrorReason.{ErrorReason}
 use Rattle.vrx_text.specs.declared.transcript.ErrorReason.TheVariants as errors
 use Rattle.vrx_program.specs.HasRead.{HasRead}

@@ -6,9 +6,9 @@ use Rattle.vrx_core.specs.machine.SettingsFault.{fault_of}
 use Rattle.vrx_core.specs.declared.settings.Settings.{Settings}
 use Rattle.vrx_core.specs.declared.settings.NewFault.{NewFault}
 use Rattle.vrx_core.specs.declared.settings.NewFault.TheVariants as faults
-use Rattle.vrx_text.specs.Line.{longest_line}
-use Rattle.vrx_text.specs.SettingsLine.{settings_in}
-use Rattle.vrx_text.specs.declared.settings_line.CodecName.{CodecName}
+use Rattle.vrx_capture.specs.Line.{longest_line}
+use Rattle.vrx_capture.specs.SettingsLine.{settings_in}
+use Rattle.vrx_capture.specs.declared.settings_line.CodecName.{CodecName}
 use Rattle.vrx_text.specs.declared.transcript.ErrorReason.TheVariants as errors
 use Rattle.vrx_program.specs.Replay.{taken, accepted, settings_of}
 use Rattle.vrx_program.specs.Inspect.{is_right, tells_right, is_head}

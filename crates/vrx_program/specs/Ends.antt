@@ -1,9 +1,9 @@
 -- How a run of the program over a capture ends.
 use Rattle.std.specs.Prelude.{◌≡◌, ◌⊎◌, ◌≤◌, ℕ, length, List, [], ◌++◌, take, Option, Some, IfSome}
 use Rattle.vrx_io.specs.Sink.{extended, TakesPart}
-use Rattle.vrx_text.specs.Line.{longest_line}
-use Rattle.vrx_text.specs.Ahead.{ahead}
-use Rattle.vrx_text.specs.Reader.{AreWhole, HasNoFeed}
+use Rattle.vrx_capture.specs.Line.{longest_line}
+use Rattle.vrx_capture.specs.Ahead.{ahead}
+use Rattle.vrx_capture.specs.Reader.{AreWhole, HasNoFeed}
 use Rattle.vrx_program.specs.Outcome.{Outcome, text_of_outcome}
 use Rattle.vrx_program.specs.declared.status.Status.{Status}
 use Rattle.vrx_program.specs.declared.status.Status.TheVariants as statuses

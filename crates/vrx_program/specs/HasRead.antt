@@ -2,10 +2,10 @@
 use Rattle.std.specs.Prelude.{◌≡◌, ◌⊎◌, ℕ, ◌+◌, true, List, [], ◌∷◌, ◌++◌, length, Option, None}
 use Rattle.vrx_io.specs.Source.{IsSpent}
 use Rattle.vrx_core.specs.declared.event.Event.{Event}
-use Rattle.vrx_text.specs.Line.{lines_of}
-use Rattle.vrx_text.specs.Reading.{sound, reading}
-use Rattle.vrx_text.specs.Ahead.{ahead}
-use Rattle.vrx_text.specs.Reader.{Reader, AreWhole}
+use Rattle.vrx_capture.specs.Line.{lines_of}
+use Rattle.vrx_capture.specs.Reading.{sound, reading}
+use Rattle.vrx_capture.specs.Ahead.{ahead}
+use Rattle.vrx_capture.specs.Reader.{Reader, AreWhole}
 
 -- what a reader read of a source: the first line, and whole lines behind it that give these events
 pub record HasRead (max : ℕ) (before : Option (List ℕ)) (first : List ℕ) (reader : Reader) (left : Option (List ℕ)) (events : List (ℕ × Event)) : Type 0 where

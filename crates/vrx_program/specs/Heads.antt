@@ -1,7 +1,7 @@
 -- Captures without a first line that may be taken.
 use Rattle.std.specs.Prelude.{◌≡◌, ℕ, List, []}
-use Rattle.vrx_text.specs.Line.{lines_of}
-use Rattle.vrx_text.specs.Reader.{HasNoHead}
+use Rattle.vrx_capture.specs.Line.{lines_of}
+use Rattle.vrx_capture.specs.Reader.{HasNoHead}
 use Rattle.vrx_text.specs.declared.transcript.ErrorReason.TheVariants as errors
 use Rattle.vrx_program.specs.Outcome.{Outcome, refused}
 

@@ -2,9 +2,9 @@
 use Rattle.std.specs.Prelude.{◌≡◌, ℕ, List, [], ◌∷◌, ◌++◌, Option, Some, None}
 use Rattle.std.specs.Option.{option_map}
 use Rattle.vrx_core.specs.declared.event.Event.{Event}
-use Rattle.vrx_text.specs.Line.{lines_of}
-use Rattle.vrx_text.specs.Reading.{Reading, reading}
-use Rattle.vrx_text.specs.declared.line.LineReason.{LineReason}
+use Rattle.vrx_capture.specs.Line.{lines_of}
+use Rattle.vrx_capture.specs.Reading.{Reading, reading}
+use Rattle.vrx_capture.specs.declared.line.LineReason.{LineReason}
 use Rattle.vrx_text.specs.declared.transcript.ErrorReason.{ErrorReason}
 use Rattle.vrx_text.specs.declared.transcript.ErrorReason.TheVariants as errors
 use Rattle.vrx_num.specs.declared.limits.TheConstants.{MOST_EVENTS}

@@ -9,13 +9,13 @@ use Rattle.vrx_core.specs.declared.settings.NewFault.{NewFault}
 use Rattle.vrx_core.specs.declared.settings.NewFault.TheVariants as faults
 use Rattle.vrx_core.specs.declared.event.Event.{Event}
 use Rattle.vrx_core.specs.declared.event.Event.TheVariants.{Tick}
-use Rattle.vrx_text.specs.Line.{lines_of, longest_line}
-use Rattle.vrx_text.specs.Reading.{Reading, reading}
-use Rattle.vrx_text.specs.SettingsLine.{settings_in}
+use Rattle.vrx_capture.specs.Line.{lines_of, longest_line}
+use Rattle.vrx_capture.specs.Reading.{Reading, reading}
+use Rattle.vrx_capture.specs.SettingsLine.{settings_in}
 use Rattle.vrx_text.specs.Transcript.{transcript}
-use Rattle.vrx_text.specs.declared.line.LineReason.{LineReason}
-use Rattle.vrx_text.specs.declared.settings_line.CodecName.{CodecName}
-use Rattle.vrx_text.specs.declared.settings_line.CodecName.TheVariants.{Vp8, H264}
+use Rattle.vrx_capture.specs.declared.line.LineReason.{LineReason}
+use Rattle.vrx_capture.specs.declared.settings_line.CodecName.{CodecName}
+use Rattle.vrx_capture.specs.declared.settings_line.CodecName.TheVariants.{Vp8, H264}
 use Rattle.vrx_text.specs.declared.transcript.ErrorReason.{ErrorReason}
 use Rattle.vrx_text.specs.declared.transcript.ErrorReason.TheVariants as errors
 use Rattle.vrx_text.specs.Transcript.{text_of}

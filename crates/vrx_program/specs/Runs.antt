@@ -3,9 +3,9 @@ use Rattle.std.specs.Prelude.{◌≡◌, ◌⊎◌, ℕ, List, [], ◌∷◌, �
 use Rattle.vrx_io.specs.Sink.{extended}
 use Rattle.vrx_io.specs.Reads.{ReadsSo}
 use Rattle.vrx_core.specs.declared.event.Event.{Event}
-use Rattle.vrx_text.specs.Line.{IsPart}
-use Rattle.vrx_text.specs.Ahead.{ahead}
-use Rattle.vrx_text.specs.Reader.{Reader, AreWhole}
+use Rattle.vrx_capture.specs.Line.{IsPart}
+use Rattle.vrx_capture.specs.Ahead.{ahead}
+use Rattle.vrx_capture.specs.Reader.{Reader, AreWhole}
 use Rattle.vrx_program.specs.HasRead.{HasRead}
 use Rattle.vrx_program.specs.Outcome.{Outcome}
 use Rattle.vrx_program.specs.Job.{Answering, most_events, history_after, texts, refused_of, Begins}

@@ -1,8 +1,8 @@
 //! Runs a word over a capture: it reads the lines, has the events answered and writes the texts.
 
-ghost use Rattle.std.specs.Prelude.{◌≡◌, ◌≢◌, ◌+◌, ◌≤◌, ℕ, List, Option, Some, None, IfNone, IfOk, IfErr, MatchOption, MatchResult};
+ghost use Rattle.std.specs.Prelude.{◌≡◌, ◌≢◌, ◌+◌, ◌≤◌, ℕ, List, [], Option, Some, None, IfNone, IfOk, IfErr, MatchOption, MatchResult};
 ghost use Rattle.vrx_core.specs.declared.event.Event.{Event};
-ghost use Rattle.vrx_text.specs.Reader.{opening};
+ghost use Rattle.vrx_capture.specs.Reader.{opening};
 ghost use Rattle.vrx_text.specs.Transcript.{error_line};
 ghost use Rattle.vrx_program.specs.Counts.{IsCounted};
 ghost use Rattle.vrx_program.specs.Ends.{EndsBadly};
@@ -32,12 +32,26 @@ fn refuse<K: Sink>(alloc: Global, k: u32, reason: ErrorReason, sink: &mut K) -> 
     }
 }
 
-/// Has the event of a line answered, and writes the text as one piece. A status ends the run.
+/// How many octets the buffer of texts keeps room for from one event to the next. The memory of a longer text is given
+/// back before the next event is answered.
+const KEPT_MEMORY: usize = 65_536;
+
+/// Empties the buffer of texts.
+fn empty(text: &mut Vec<u8>)
+    ensures { text.new.items ≡ [] }
+{
+    text.clear();
+    text.shrink_to(KEPT_MEMORY);
+}
+
+/// Has the event of a line answered, and writes the text as one piece. The buffer holds this text only. A status ends
+/// the run.
 fn answer<J: Job, K: Sink>(
     alloc: Global,
     job: &mut J,
     k: u32,
     event: &Event,
+    text: &mut Vec<u8>,
     sink: &mut K,
 ) -> Option<Status>
     requires room { J.count job.old + 1 ≤ most_events }
@@ -51,8 +65,9 @@ fn answer<J: Job, K: Sink>(
         (reads : ℕ) → IsCounted status reads reads (K.faults sink.old) (K.faults sink.new) }
     ensures later { K.faults sink.old ≤ K.faults sink.new }
 {
-    match job.answer(alloc, k, event) {
-        Ok(text) => match put(sink, text.as_slice()) {
+    empty(text);
+    match job.answer(k, event, text) {
+        Ok(()) => match put(sink, text.as_slice()) {
             Ok(()) => None,
             Err(_) => Some(Status::WriteFault),
         },
@@ -66,6 +81,7 @@ fn step<J: Job, S: Source, K: Sink>(
     alloc: Global,
     job: &mut J,
     lines: &mut Lines,
+    text: &mut Vec<u8>,
     source: &mut S,
     sink: &mut K,
 ) -> Option<Status>
@@ -87,9 +103,10 @@ fn step<J: Job, S: Source, K: Sink>(
     ensures read_later { S.faults source.old ≤ S.faults source.new }
     ensures write_later { K.faults sink.old ≤ K.faults sink.new }
 {
+    // A law: the lines of whole lines and of what stands after them join, and so does what they give.
     lines_join();
     match lines.next(source) {
-        Ok(Line::Event { k, event }) => answer(alloc, job, k, &event, sink),
+        Ok(Line::Event { k, event }) => answer(alloc, job, k, &event, text, sink),
         Ok(Line::End) => Some(Status::Done),
         Err(LineFault::Bad { k, reason }) => {
             Some(refuse(alloc, k, ErrorReason::Line(reason), sink))
@@ -120,7 +137,9 @@ fn begin<J: Job, S: Source, K: Sink>(
     ensures read_later { S.faults source.old ≤ S.faults source.new }
     ensures write_later { K.faults sink.old ≤ K.faults sink.new }
 {
+    // A law: the lines of whole lines and of what stands after them join, and so does what they give.
     lines_join();
+    // A law: a capture without a first line that may be taken is refused.
     J::refuses_heads();
     let line = match lines.head(source) {
         Ok(Some(line)) => line,
@@ -154,8 +173,9 @@ pub(crate) fn drive<J: Job, S: Source, K: Sink>(
         Ok(job) => job,
         Err(status) => return status,
     };
+    let mut text = Vec::new(alloc);
     'events: loop {
-        if let Some(status) = step(alloc, &mut job, &mut lines, source, sink) {
+        if let Some(status) = step(alloc, &mut job, &mut lines, &mut text, source, sink) {
             return status;
         }
     }

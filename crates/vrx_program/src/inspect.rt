@@ -1,8 +1,9 @@
 //! The word inspect: a capture in, what each of its datagrams is out.
 
-ghost use Rattle.std.specs.Prelude.{◌≡◌, ◌≢◌, ◌⊎◌, ◌+◌, ◌≤◌, ⊤, length, Some, None, IfOk, MatchOption};
+ghost use Rattle.std.specs.Prelude.{◌≡◌, ◌≢◌, ◌⊎◌, ◌+◌, ◌++◌, ◌≤◌, ⊤, length, Some, None, IfErr, IfOk, OnOk, MatchOption};
 ghost use Rattle.vrx_core.specs.machine.SettingsFault.{fault_of as fault_of_settings};
-ghost use Rattle.vrx_text.specs.Line.{longest_line};
+ghost use Rattle.vrx_capture.specs.Line.{longest_line};
+ghost use Rattle.vrx_text.specs.Inspection.{inspection};
 ghost use Rattle.vrx_program.specs.Inspect.{is_right, is_head, inspecting, inspected};
 
 use crate::job::{Job, Unanswered};
@@ -12,9 +13,10 @@ use vrx_num::NoMemory;
 use vrx_text::{ErrorReason, inspect_text, read_settings};
 use vrx_vp8::Vp8;
 
-/// An inspection: how many events it answered.
+/// An inspection: where its lines take their memory, and how many events it answered.
 #[derive(Drop)]
 pub(crate) struct Inspect {
+    alloc: Global,
     events: u32,
 }
 
@@ -56,6 +58,20 @@ fn tells_right(alloc: Global, line: &[u8]) -> Result<bool, NoMemory>
     }
 }
 
+/// Puts the line of a datagram after a text.
+fn add_line(alloc: Global, k: u32, bytes: &[u8], text: &mut Vec<u8>) -> Result<(), Unanswered>
+    ensures ok { OnOk result (text.new.items ≡ text.old.items ++ inspection k bytes.now) }
+    ensures err { IfErr result (λ why. why ≡ Unanswered.NoMemory) }
+{
+    let Ok(line) = inspect_text(alloc, k, bytes) else {
+        return Err(Unanswered::NoMemory);
+    };
+    match text.extend_from_slice(line.as_slice()) {
+        Ok(()) => Ok(()),
+        Err(_) => Err(Unanswered::NoMemory),
+    }
+}
+
 impl Job for Inspect {
     ghost outcome = { inspected };
 
@@ -69,21 +85,18 @@ impl Job for Inspect {
 
     fn begin(alloc: Global, line: &[u8]) -> Result<Inspect, Unanswered> {
         match tells_right(alloc, line) {
-            Ok(true) => Ok(Inspect { events: 0 }),
+            Ok(true) => Ok(Inspect { alloc, events: 0 }),
             Ok(false) => Err(Unanswered::Refused(ErrorReason::Settings)),
             Err(NoMemory) => Err(Unanswered::NoMemory),
         }
     }
 
-    fn answer(&mut self, alloc: Global, k: u32, event: &Event) -> Result<Vec<u8>, Unanswered> {
+    fn answer(&mut self, k: u32, event: &Event, text: &mut Vec<u8>) -> Result<(), Unanswered> {
         self.events += 1;
         match event {
-            Event::Datagram { bytes, .. } => match inspect_text(alloc, k, bytes.as_slice()) {
-                Ok(text) => Ok(text),
-                Err(_) => Err(Unanswered::NoMemory),
-            },
-            Event::Tick { .. } => Ok(Vec::new(alloc)),
-            Event::Pull { .. } => Ok(Vec::new(alloc)),
+            Event::Datagram { bytes, .. } => add_line(self.alloc, k, bytes.as_slice(), text),
+            Event::Tick { .. } => Ok(()),
+            Event::Pull { .. } => Ok(()),
         }
     }
 }

@@ -1,8 +1,8 @@
 //! What a word does with the events of a capture.
 
-ghost use Rattle.std.specs.Prelude.{◌≡◌, ◌+◌, ◌<◌, ◌≤◌, ℕ, List, [], ◌∷◌, Option, Some, None, MatchResult, IfOk, IfErr, OnOk, length};
+ghost use Rattle.std.specs.Prelude.{◌≡◌, ◌+◌, ◌++◌, ◌<◌, ◌≤◌, ℕ, List, [], ◌∷◌, Option, Some, None, MatchResult, IfOk, IfErr, OnOk, length};
 ghost use Rattle.vrx_core.specs.declared.event.Event.{Event};
-ghost use Rattle.vrx_text.specs.Line.{longest_line};
+ghost use Rattle.vrx_capture.specs.Line.{longest_line};
 ghost use Rattle.vrx_program.specs.Outcome.{Outcome};
 ghost use Rattle.vrx_program.specs.Job.{Answering, Begins, IsRefused, IfRefused, most_events};
 ghost use Rattle.vrx_program.specs.Heads.{RefusesHeads};
@@ -45,11 +45,11 @@ pub(crate) trait Job: Drop {
         ensures count { IfOk result (λ job. count job ≡ 0) }
         ensures refused { IfErr result (λ why. IfRefused why (IsRefused outcome line.now)) };
 
-    /// The text of the event of line `k`, or why there is none.
-    fn answer(&mut self, alloc: Global, k: u32, event: &Event) -> Result<Vec<u8>, Unanswered>
+    /// Puts the text of the event of line `k` after a text, or says why there is none.
+    fn answer(&mut self, k: u32, event: &Event, text: &mut Vec<u8>) -> Result<(), Unanswered>
         requires room { count self.old + 1 ≤ most_events }
         ensures text { (h : List Event) → answered self.old h →
-            IfOk result (λ text. text.items ≡ (answering self.old).text h k event.now) }
+            OnOk result (text.new.items ≡ text.old.items ++ (answering self.old).text h k event.now) }
         ensures answered { (h : List Event) → answered self.old h → OnOk result (answered self.new (event.now ∷ h)) }
         ensures accepted { OnOk result ((answering self.old).refuses event.now ≡ None) }
         ensures refused { IfErr result (λ why.

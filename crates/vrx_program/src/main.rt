@@ -87,7 +87,9 @@ pub fn run<S: Source, K: Sink>(
         (sender : Sender) (origins : List Origin) → IsHonestCapture capture sender origins →
         HonestLines capture sender origins result (K.taken sink.old) (K.taken sink.new)) }
 {
+    // A law: what the machine answers in an honest call is the sender's, in order and after its references.
     honest_call();
+    // A law: the lines of whole lines and of what stands after them join, and so does what they give.
     lines_join();
     match word_of(words) {
         Some(Word::Replay) => drive::<Replay, S, K>(alloc, source, sink),

@@ -1,12 +1,12 @@
 //! The word replay: a capture in, its transcript out.
 
-ghost use Rattle.std.specs.Prelude.{◌≡◌, ◌+◌, ◌<◌, ◌≤◌, List, [], ◌∷◌, Ok, Err, Some, None, length, IfOk, IfErr, OnOk};
+ghost use Rattle.std.specs.Prelude.{◌≡◌, ◌+◌, ◌++◌, ◌<◌, ◌≤◌, List, [], ◌∷◌, Ok, Err, Some, None, length, is_ok, IfOk, IfErr, OnOk};
 ghost use Rattle.vrx_core.specs.machine.Machine.{reply};
 ghost use Rattle.vrx_core.specs.machine.SettingsFault.{fault_of};
 ghost use Rattle.vrx_core.specs.relation.StandsFor.{StandsFor};
 ghost use Rattle.vrx_core.specs.declared.event.Event.{Event};
 ghost use Rattle.vrx_text.specs.Transcript.{text_of};
-ghost use Rattle.vrx_text.specs.declared.settings_line.CodecName.{CodecName};
+ghost use Rattle.vrx_capture.specs.declared.settings_line.CodecName.{CodecName};
 ghost use Rattle.vrx_program.specs.Job.{IfRefused, most_events};
 ghost use Rattle.vrx_program.specs.Replay.{refuses_tick, replayed, hindrance_of, taken};
 ghost use Rattle.vrx_program.specs.Replays.{replaying_by, HasReplayed, replayed_count};
@@ -17,7 +17,7 @@ use vrx_codec::Codec;
 use vrx_core::{Engine, Event, NewFault, Settings};
 use vrx_h264::H264;
 use vrx_num::NoMemory;
-use vrx_text::{CodecName, ErrorReason, read_settings, text_of_handled, text_of_pulled};
+use vrx_text::{CodecName, ErrorReason, read_settings, write_handled, write_pulled};
 use vrx_vp8::Vp8;
 
 /// A replay: the engine of the codec that the first line tells.
@@ -29,27 +29,27 @@ pub(crate) enum Replay {
     H264(Engine<H264>),
 }
 
-/// A text, or that memory ran out.
-fn text_or_none(text: Result<Vec<u8>, NoMemory>) -> Result<Vec<u8>, Unanswered>
-    ensures ok { IfOk result (λ octets. text ≡ Ok octets) }
+/// That a text was written, or that memory ran out.
+fn written(text: Result<(), NoMemory>) -> Result<(), Unanswered>
+    ensures ok { is_ok result ≡ is_ok text }
     ensures err { IfErr result (λ why. why ≡ Unanswered.NoMemory) }
 {
     match text {
-        Ok(text) => Ok(text),
+        Ok(()) => Ok(()),
         Err(_) => Err(Unanswered::NoMemory),
     }
 }
 
-/// The text of an engine's reply to an event. Ticks are refused.
+/// Puts the text of an engine's reply to an event after a text. Ticks are refused.
 fn reply_of<C: Codec>(
-    alloc: Global,
     engine: &mut Engine<C>,
     k: u32,
     event: &Event,
-) -> Result<Vec<u8>, Unanswered>
+    text: &mut Vec<u8>,
+) -> Result<(), Unanswered>
     requires room { engine.old.events < most_events }
     ensures text { (h : List Event) → StandsFor C.meaning engine.old h →
-        IfOk result (λ text. text.items ≡ text_of k (reply engine.old.settings C.meaning h event.now)) }
+        OnOk result (text.new.items ≡ text.old.items ++ text_of k (reply engine.old.settings C.meaning h event.now)) }
     ensures stands { (h : List Event) → StandsFor C.meaning engine.old h →
         OnOk result (StandsFor C.meaning engine.new (event.now ∷ h)) }
     ensures accepted { OnOk result (refuses_tick event.now ≡ None) }
@@ -59,12 +59,12 @@ fn reply_of<C: Codec>(
 {
     match event {
         Event::Datagram { moment, bytes } => match engine.datagram(*moment, bytes.as_slice()) {
-            Ok(handled) => text_or_none(text_of_handled(alloc, k, &handled)),
+            Ok(handled) => written(write_handled(text, k, &handled)),
             Err(_) => Err(Unanswered::NoMemory),
         },
         Event::Tick { .. } => Err(Unanswered::Refused(ErrorReason::Later)),
         Event::Pull { moment } => match engine.pull(*moment) {
-            Ok(pulled) => text_or_none(text_of_pulled(alloc, k, &pulled)),
+            Ok(pulled) => written(write_pulled(text, k, &pulled)),
             Err(_) => Err(Unanswered::NoMemory),
         },
     }
@@ -126,10 +126,10 @@ impl Job for Replay {
         }
     }
 
-    fn answer(&mut self, alloc: Global, k: u32, event: &Event) -> Result<Vec<u8>, Unanswered> {
+    fn answer(&mut self, k: u32, event: &Event, text: &mut Vec<u8>) -> Result<(), Unanswered> {
         match self {
-            Replay::Vp8(engine) => reply_of(alloc, engine, k, event),
-            Replay::H264(engine) => reply_of(alloc, engine, k, event),
+            Replay::Vp8(engine) => reply_of(engine, k, event, text),
+            Replay::H264(engine) => reply_of(engine, k, event, text),
         }
     }
 }

@@ -41,7 +41,7 @@ rtcp_only reads k octets line is (BadRtp other f _ _) = absurd (other is)
 rtcp_only reads k octets line is (Compound _ packets compound e) = e ∙ ap (λ (r : Result (List ℕ) RtcpFault). line_of_rtcp k r) (sym (words-compound reads octets packets compound))
 rtcp_only reads k octets line is (BadRtcp _ fault has e) = e ∙ ap (λ (r : Result (List ℕ) RtcpFault). line_of_rtcp k r) (sym (words-has_fault reads octets fault has))
 
--- the octets up to a place are packets, and the text has their words behind the line's first ones
+-- the octets up to a place are packets, and the text has their words after the line's first ones
 pub record Told (k : ℕ) (datagram text : List ℕ) (place : ℕ) : Type 0 where
   pub packets : List Spelled
   pub spelled : datagram ≡ joined packets ++ drop place datagram
@@ -83,7 +83,7 @@ told_whole k datagram text line place is ended rtcp e =
     (record { spelled = is.spelled ∙ ap (λ (x : List ℕ). joined is.packets ++ x) (drop_all place datagram ended) ∙ append-nil (joined is.packets); each = is.each })
     (e ∙ ap (λ (x : List ℕ). x ++ line_feed) is.words)
 
--- where no packet is read, that is the first fault
+-- if no packet is read, that is the first fault
 fault_here : (k : ℕ) (datagram text : List ℕ) (place : ℕ) (kind : RtcpFaultKind) → Told k datagram text place → place < length datagram → first_fault (drop place datagram) ≡ Some kind → HasFault datagram (told place kind)
 fault_here k datagram text place kind is within some = record {
   before = is.packets;

@@ -32,7 +32,7 @@ pub bare_extension : inspection 6 (0xb0 ∷ 0x7f ∷ 0xff ∷ 0xff ∷ 0xff ∷ 
 unfolding inspection digits encode_with
 bare_extension = refl
 
--- a source description of a header alone, and behind it a goodbye of two sources with one: 80ca0000 82cb00010000000a
+-- a source description of only a header, and after it a goodbye of two sources with one: 80ca0000 82cb00010000000a
 pub later_fault : inspection 7 (0x80 ∷ 0xca ∷ 0 ∷ 0 ∷ 0x82 ∷ 0xcb ∷ 0 ∷ 1 ∷ 0 ∷ 0 ∷ 0 ∷ 0x0a ∷ []) ≡ codes "7 bad rtcp Body 4" ++ line_feed
 unfolding inspection words_from first_fault size message_of digits
 later_fault = refl

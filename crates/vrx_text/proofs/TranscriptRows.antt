@@ -4,7 +4,7 @@ use Rattle.std.specs.Fmt.{digits}
 use Rattle.hex.specs.Hex.{encode_with}
 use Rattle.vrx_core.specs.machine.Machine.{ToDatagram, ToTick, no_feedback}
 use Rattle.vrx_core.specs.declared.reply.What.TheVariants.{Fec}
-use Rattle.vrx_text.specs.declared.line.LineReason.TheVariants.{Hex}
+use Rattle.vrx_capture.specs.declared.line.LineReason.TheVariants.{Hex}
 use Rattle.vrx_text.specs.declared.transcript.ErrorReason.TheVariants.{Settings, Later, Line}
 use Rattle.vrx_text.specs.Transcript.{line_feed, text_of, error_line}
 

@@ -16,7 +16,7 @@ use Rattle.vrx_text.specs.Inspection.{message_word, spaced_word, packet_words, w
 
 -- ---- the word of a packet
 
--- the first octet of a packet tells its count
+-- the first octet of a packet reports its count
 count-first_octet : (padded : Bool) (count : ℕ) → count < 32 → first_octet padded count % 32 ≡ count
 count-first_octet false count below = omega arith
 count-first_octet true count below = omega arith
@@ -33,7 +33,7 @@ other_format of count kind other =
     and-false true = refl
     and-false false = refl
 
--- the word depends on the kind and the count or format alone
+-- the word depends only on the kind and the count or format
 word-means : (count kind : ℕ) (content read : List ℕ) (says : Message) → Means count kind content says → message_word (message_of count kind read) ≡ message_word says
 unfolding message_of
 word-means count kind content read (Sender s) means = rw means.0 refl
@@ -53,7 +53,7 @@ word-means count kind content read (Other other) means =
 
 -- ---- the packet at the front of octets
 
--- what is read of octets that begin with a packet, with this rest behind it
+-- what is read of octets that begin with a packet, with this rest after it
 record Reads (octets rest : List ℕ) (packet_length : ℕ) (says : Message) : Type 0 where
   size : size octets ≡ packet_length
   word : spaced_word (message octets) ≡ spaced_word says
@@ -81,7 +81,7 @@ reads-packet packet rest says is =
 
 -- ---- the words of packets
 
--- one packet's word, and the words behind it
+-- one packet's word, and the words after it
 words-step : (most offset : ℕ) (octets rest : List ℕ) (len : ℕ) (says : Message) → Reads octets rest len says → first_fault octets ≡ None → words_from (suc most) offset octets ≡ with_word (spaced_word says) (words_from most (offset + len) rest)
 unfolding words_from
 words-step most offset [] rest len says reads none = absurd (let h = reads.some in omega (arith, h))

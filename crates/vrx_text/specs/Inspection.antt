@@ -29,7 +29,7 @@ abbrev pub marker_text : Bool → List ℕ
 marker_text true = codes "1"
 marker_text false = codes "0"
 
--- the number of the extension's words, or - where there is no extension
+-- the number of the extension's words, or - if there is no extension
 abbrev pub extension_text : Option rtp.HeaderExtension → List ℕ
 extension_text None = codes "-"
 extension_text (Some e) = decimal (length e.words / 4)
@@ -55,7 +55,7 @@ rtp_kind_text rtp_kind.PaddingPastEnd = codes "PaddingPastEnd"
 abbrev pub bad_rtp_line : ℕ → RtpFault → List ℕ
 bad_rtp_line k fault = decimal k ++ codes " bad rtp " ++ rtp_kind_text fault.kind ++ codes " " ++ decimal fault.at ++ line_feed
 
--- the word for what an RTCP packet says; another one's has its type behind it
+-- the word for what an RTCP packet says; another one's has its type after it
 abbrev pub message_word : Message → List ℕ
 message_word (Sender s) = codes "sr"
 message_word (Report ssrc blocks) = codes "rr"
@@ -90,7 +90,7 @@ bad_rtcp_line k fault = decimal k ++ codes " bad rtcp " ++ rtcp_kind_text fault.
 
 -- ---- which of them a datagram has
 
--- the line that says of a datagram, told in line k, what it is
+-- the line that says what the datagram of line k is
 pub data IsInspection (k : ℕ) (octets line : List ℕ) : Type 0 where
   RtpPacket : ¬ IsRtcp octets → (p : rtp.Packet) → rtp.IsPacket octets p → line ≡ rtp_line k p → IsInspection k octets line
   BadRtp : ¬ IsRtcp octets → (fault : RtpFault) → rtp_faults.first_fault octets ≡ Some fault → line ≡ bad_rtp_line k fault → IsInspection k octets line
@@ -107,7 +107,7 @@ abbrev pub line_of_rtcp : ℕ → Result (List ℕ) RtcpFault → List ℕ
 line_of_rtcp k (Ok words) = rtcp_line k words
 line_of_rtcp k (Err fault) = bad_rtcp_line k fault
 
--- a packet's word before the words of those behind it, unless one of those has a fault
+-- a packet's word before the words of those after it, unless one of those has a fault
 abbrev pub with_word : List ℕ → Result (List ℕ) RtcpFault → Result (List ℕ) RtcpFault
 with_word word (Ok words) = Ok (word ++ words)
 with_word word (Err fault) = Err fault
@@ -117,8 +117,8 @@ abbrev pub words_or : ℕ → Option RtcpFaultKind → Result (List ℕ) RtcpFau
 words_or offset (Some kind) words = Err (told offset kind)
 words_or offset None words = words
 
--- The words of the packets that the octets at an offset are, at most so many, or the first fault: where the packet at
--- the front has none, its word, and then the words of what lies behind it.
+-- The words of the packets that the octets at an offset are, at most so many, or the first fault: if the packet at
+-- the front has none, its word, and then the words of what lies after it.
 unfoldable pub words_from : ℕ → ℕ → List ℕ → Result (List ℕ) RtcpFault
 words_from zero offset octets = Ok []
 words_from (suc most) offset [] = Ok []
@@ -129,6 +129,6 @@ words_from (suc most) offset (octet ∷ octets) = let rest : List ℕ = octet �
 abbrev pub words_in : List ℕ → Result (List ℕ) RtcpFault
 words_in octets = words_from (length octets) 0 octets
 
--- the line that says of a datagram, told in line k, what it is
+-- the line that says what the datagram of line k is
 unfoldable pub inspection : ℕ → List ℕ → List ℕ
 inspection k octets = if is_rtcp octets then line_of_rtcp k (words_in octets) else line_of_rtp k (reading octets)

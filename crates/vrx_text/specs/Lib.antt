@@ -1,15 +1,3 @@
-pub mod Words
-pub mod SettingsLine
-pub mod IsSettingsLine
-pub mod Line
-pub mod IsLine
-pub mod Reading
-pub mod Readings
-pub mod Joins
+pub mod Keeps
 pub mod Transcript
 pub mod Inspection
-pub mod Ahead
-pub mod Held
-pub mod Found
-pub mod Reader
-pub mod Step

@@ -17,15 +17,15 @@ use Rattle.vrx_core.specs.declared.reply.Frame.{Frame}
 use Rattle.vrx_core.specs.declared.reply.Pulled.{Pulled}
 use Rattle.vrx_core.specs.declared.reply.Pulled.TheVariants as pulls
 use Rattle.vrx_core.specs.declared.reply.Handled.{Handled}
-use Rattle.vrx_text.specs.declared.line.LineReason.{LineReason}
-use Rattle.vrx_text.specs.declared.line.LineReason.TheVariants.{Lines, Long, Kind, Events, Moment, End, Hex}
+use Rattle.vrx_capture.specs.declared.line.LineReason.{LineReason}
+use Rattle.vrx_capture.specs.declared.line.LineReason.TheVariants.{Lines, Long, Kind, Events, Moment, End, Hex}
 use Rattle.vrx_text.specs.declared.transcript.ErrorReason.{ErrorReason}
 use Rattle.vrx_text.specs.declared.transcript.ErrorReason.TheVariants.{Settings as OfSettings, Later, Line}
 
 abbrev pub line_feed : List ℕ
 line_feed = 10 ∷ []
 
--- the word for a reason; BadPart has the codec's number of the fault behind it
+-- the word for a reason; BadPart has the codec's number of the fault after it
 abbrev pub reason_text : Reason → List ℕ
 reason_text TooLong = codes "TooLong"
 reason_text BadRtcp = codes "BadRtcp"
@@ -65,12 +65,12 @@ repaired_line k n = decimal k ++ codes " repaired " ++ decimal n ++ line_feed
 abbrev pub repaired_text : ℕ → List ℕ → List ℕ
 repaired_text k numbers = flat_map (λ n. repaired_line k n) numbers
 
--- K nack HEX where there is a NACK
+-- K nack HEX if there is a NACK
 abbrev pub nack_text : ℕ → Option (ArrayVec ℕ) → List ℕ
 nack_text k None = []
 nack_text k (Some nack) = decimal k ++ codes " nack " ++ encode_lower nack.items ++ line_feed
 
--- K pli HEX where there is a PLI
+-- K pli HEX if there is a PLI
 abbrev pub pli_text : ℕ → Option (List ℕ) → List ℕ
 pli_text k None = []
 pli_text k (Some pli) = decimal k ++ codes " pli " ++ encode_lower pli ++ line_feed
@@ -118,7 +118,7 @@ error_reason_text OfSettings = codes "settings"
 error_reason_text Later = codes "later"
 error_reason_text (Line reason) = line_reason_text reason
 
--- the last line where line k is bad: error line K REASON
+-- the last line if line k is bad: error line K REASON
 unfoldable pub error_line : ℕ → ErrorReason → List ℕ
 error_line k reason = codes "error line " ++ decimal k ++ codes " " ++ error_reason_text reason ++ line_feed
 

@@ -24,7 +24,7 @@ fn marker_text(marker: bool) -> &'static str
     if marker { "1" } else { "0" }
 }
 
-/// The number of the extension's words, or `-` where there is no extension.
+/// The number of the extension's words, or `-` if there is no extension.
 fn extension_text(alloc: Global, packet: &RtpView<'_>) -> Result<String, NoMemory>
     ensures { IfOk result (λ text.
         string_bytes text ≡ extension_text (packet_of packet.now).extension) }
@@ -181,6 +181,7 @@ fn rtcp_computes()
     ensures { (k : ℕ) (octets line : List ℕ) → IsRtcp octets → IsInspection k octets line →
         line ≡ line_of_rtcp k (words_in octets) }
 {
+    // A law: octets begin with one RTCP packet at most, and if they begin with one there is no fault.
     one_packet();
 }
 
@@ -205,7 +206,7 @@ fn inspect_rtcp(alloc: Global, k: u32, bytes: &[u8]) -> Result<Vec<u8>, NoMemory
 }
 
 /// One line that says what the datagram of line `k` is, ended by a line feed. The datagram may have any length, also
-/// none. It fails only for want of memory.
+/// none. It fails only if it is out of memory.
 ///
 /// ```text
 /// K rtp pt=P seq=S ts=T ssrc=H m=M csrc=C ext=E pad=D payload=L
@@ -215,9 +216,9 @@ fn inspect_rtcp(alloc: Global, k: u32, bytes: &[u8]) -> Result<Vec<u8>, NoMemory
 /// ```
 ///
 /// The first is an RTP packet (RFC 3550 5.1): H has eight hexadecimal digits, M is 0 or 1, C counts the contributing
-/// sources, E the 32-bit words of the header extension, or is `-` where there is none, D counts the padding octets,
+/// sources, E the 32-bit words of the header extension, or is `-` if there is none, D counts the padding octets,
 /// and L the payload's octets. The second is a compound of RTCP packets (RFC 3550 6.1): each WORD is `sr`, `rr`,
-/// `bye`, `nack`, `pli`, or `other` and the packet's type. The others tell the first fault, by the names of
+/// `bye`, `nack`, `pli`, or `other` and the packet's type. The others report the first fault, by the names of
 /// [`RtpFaultKind`] and [`RtcpFaultKind`], and its offset. A datagram is RTCP by its second octet (RFC 5761 4), and
 /// else read as RTP.
 #[tactic(auto, unfolding(crate::specs::Inspection::inspection))]
@@ -231,6 +232,7 @@ pub fn inspect_text(alloc: Global, k: u32, bytes: &[u8]) -> Result<Vec<u8>, NoMe
     ensures only { (line : List ℕ) → IsInspection k bytes.now line →
         IfOk result (λ text. text.items ≡ line) }
 {
+    // A law: the line of RTCP that the definition computes is the only one that an inspection can have.
     rtcp_computes();
     if is_rtcp(bytes) {
         inspect_rtcp(alloc, k, bytes)

@@ -1,14 +1,15 @@
 //! The lines of a transcript.
 
-ghost use Rattle.std.specs.Prelude.{◌≡◌, ◌+◌, ◌*◌, ◌++◌, codes, drop, length, take, IfOk, OnOk};
+ghost use Rattle.std.specs.Prelude.{◌≡◌, ◌++◌, codes, IfErr, IfOk, OnOk, OnErr};
 ghost use Rattle.std.specs.Fmt.{decimal};
-ghost use Rattle.std.specs.String.{string_bytes};
 ghost use Rattle.hex.specs.Hex.{encode_lower};
 ghost use Rattle.vrx_core.specs.machine.Machine.{ToDatagram, ToTick, ToPull};
-ghost use Rattle.vrx_text.specs.Transcript.{reason_text, kind_text, line_feed, what_text as what_text_of, repaired_line as repaired_line_of, repaired_text, nack_text, pli_text, feedback_text, frame_text, text_of, line_reason_text, error_reason_text, error_line};
+ghost use Rattle.vrx_text.specs.Keeps.{Keeps};
+ghost use Rattle.vrx_text.specs.Transcript.{reason_text, kind_text, line_feed, what_text, repaired_line, repaired_text, nack_text, pli_text, feedback_text, frame_text, handled_text, tick_text, pulled_text, text_of, line_reason_text, error_reason_text, error_line};
 
-use crate::line::LineReason;
+use crate::pieces::{push_digits, push_number, push_octets};
 use std::alloc::Global;
+use vrx_capture::LineReason;
 use vrx_core::{Frame, Handled, Pulled, Reason, What};
 use vrx_num::NoMemory;
 use vrx_rtcp::Feedback;
@@ -31,266 +32,316 @@ fn kind_text(key: bool) -> &'static str
     if key { "key" } else { "delta" }
 }
 
-/// The line of a datagram that was taken, under this number.
-fn media_text(alloc: Global, k: u32, n: u64) -> Result<Vec<u8>, NoMemory>
-    ensures { IfOk result (λ text. text.items ≡ decimal k ++ codes " media " ++ decimal n ++ line_feed) }
+/// Puts the number of a line and a word last.
+#[tactic(auto, using(crate::proofs::KeepsLemmas::keeps_on))]
+fn push_head(text: &mut Vec<u8>, k: u32, word: &str) -> Result<(), NoMemory>
+    ensures ok { OnOk result (text.new.items ≡ text.old.items ++ decimal k ++ word.now) }
+    ensures kept { Keeps text.old.items text.new.items }
 {
-    Ok(format!(in alloc; "{k} media {n}\n")?.into_bytes())
+    push_number(text, u64::from(k))?;
+    push_octets(text, word.as_bytes())
 }
 
-/// The line of a datagram that was taken as FEC, under this number.
-fn fec_text(alloc: Global, k: u32, n: u64) -> Result<Vec<u8>, NoMemory>
-    ensures { IfOk result (λ text. text.items ≡ decimal k ++ codes " fec " ++ decimal n ++ line_feed) }
+/// Puts a number and a line feed last.
+#[tactic(auto, using(crate::proofs::KeepsLemmas::keeps_on))]
+fn push_last_number(text: &mut Vec<u8>, n: u64) -> Result<(), NoMemory>
+    ensures ok { OnOk result (text.new.items ≡ text.old.items ++ decimal n ++ line_feed) }
+    ensures kept { Keeps text.old.items text.new.items }
 {
-    Ok(format!(in alloc; "{k} fec {n}\n")?.into_bytes())
+    push_number(text, n)?;
+    push_octets(text, b"\n")
 }
 
-/// The line of a datagram that was taken under this number, and has no payload.
-fn empty_text(alloc: Global, k: u32, n: u64) -> Result<Vec<u8>, NoMemory>
-    ensures { IfOk result (λ text. text.items ≡ decimal k ++ codes " empty " ++ decimal n ++ line_feed) }
+/// Puts octets and a line feed last, the octets in hexadecimal digits.
+#[tactic(auto, using(crate::proofs::KeepsLemmas::keeps_on))]
+fn push_last_digits(text: &mut Vec<u8>, octets: &[u8]) -> Result<(), NoMemory>
+    ensures ok { OnOk result (text.new.items ≡ text.old.items ++ encode_lower octets.now ++ line_feed) }
+    ensures kept { Keeps text.old.items text.new.items }
 {
-    Ok(format!(in alloc; "{k} empty {n}\n")?.into_bytes())
+    push_digits(text, octets)?;
+    push_octets(text, b"\n")
 }
 
-/// The line of a datagram that is RTCP.
-fn rtcp_text(alloc: Global, k: u32) -> Result<Vec<u8>, NoMemory>
-    ensures { IfOk result (λ text. text.items ≡ decimal k ++ codes " rtcp" ++ line_feed) }
+/// Puts a line last: a word, and a number.
+#[tactic(auto, using(crate::proofs::KeepsLemmas::keeps_on))]
+fn push_numbered(text: &mut Vec<u8>, k: u32, word: &str, n: u64) -> Result<(), NoMemory>
+    ensures ok { OnOk result (text.new.items ≡ text.old.items ++ decimal k ++ word.now ++ decimal n ++ line_feed) }
+    ensures kept { Keeps text.old.items text.new.items }
 {
-    Ok(format!(in alloc; "{k} rtcp\n")?.into_bytes())
+    push_head(text, k, word)?;
+    push_last_number(text, n)
 }
 
-/// The line of a datagram that was refused, with the reason's word.
-fn drop_text(alloc: Global, k: u32, word: &str) -> Result<Vec<u8>, NoMemory>
-    ensures { IfOk result (λ text. text.items ≡ decimal k ++ codes " drop " ++ word.now ++ line_feed) }
+/// Puts a line last: a word, and octets in hexadecimal digits.
+#[tactic(auto, using(crate::proofs::KeepsLemmas::keeps_on))]
+fn push_octet_line(text: &mut Vec<u8>, k: u32, word: &str, octets: &[u8]) -> Result<(), NoMemory>
+    ensures ok { OnOk result (text.new.items ≡ text.old.items ++ decimal k ++ word.now ++ encode_lower octets.now ++ line_feed) }
+    ensures kept { Keeps text.old.items text.new.items }
 {
-    Ok(format!(in alloc; "{k} drop {word}\n")?.into_bytes())
+    push_head(text, k, word)?;
+    push_last_digits(text, octets)
 }
 
-/// The line of a datagram whose payload is no part of a frame, with the codec's number of the fault.
-fn bad_part_text(alloc: Global, k: u32, code: u8) -> Result<Vec<u8>, NoMemory>
-    ensures { IfOk result (λ text. text.items ≡ decimal k ++ codes " drop BadPart " ++ decimal code ++ line_feed) }
+/// Puts the line of a datagram last that was refused, with the reason's word.
+#[tactic(auto, using(crate::proofs::KeepsLemmas::keeps_on))]
+fn push_drop(text: &mut Vec<u8>, k: u32, word: &str) -> Result<(), NoMemory>
+    ensures ok { OnOk result (text.new.items ≡ text.old.items ++ decimal k ++ codes " drop " ++ word.now ++ line_feed) }
+    ensures kept { Keeps text.old.items text.new.items }
 {
-    Ok(format!(in alloc; "{k} drop BadPart {code}\n")?.into_bytes())
+    push_head(text, k, " drop ")?;
+    push_octets(text, word.as_bytes())?;
+    push_octets(text, b"\n")
 }
 
-/// The line of a datagram that was refused, for this reason.
-fn dropped_text(alloc: Global, k: u32, reason: Reason) -> Result<Vec<u8>, NoMemory>
-    ensures { IfOk result (λ text.
-        text.items ≡ decimal k ++ codes " drop " ++ reason_text reason ++ line_feed) }
+/// The word for a reason, if it is a word only.
+fn reason_word(reason: Reason) -> Result<&'static str, u8>
+    ensures word { IfOk result (λ word. word.now ≡ reason_text reason) }
+    ensures code { IfErr result (λ code. reason ≡ Reason.BadPart code) }
 {
     match reason {
-        Reason::TooLong => drop_text(alloc, k, "TooLong"),
-        Reason::BadRtcp => drop_text(alloc, k, "BadRtcp"),
-        Reason::NotRtp => drop_text(alloc, k, "NotRtp"),
-        Reason::BadHeader => drop_text(alloc, k, "BadHeader"),
-        Reason::OtherSsrc => drop_text(alloc, k, "OtherSsrc"),
-        Reason::OtherType => drop_text(alloc, k, "OtherType"),
-        Reason::NoApt => drop_text(alloc, k, "NoApt"),
-        Reason::RtxEmpty => drop_text(alloc, k, "RtxEmpty"),
-        Reason::MoreBlocks => drop_text(alloc, k, "MoreBlocks"),
-        Reason::BadRed => drop_text(alloc, k, "BadRed"),
-        Reason::BadFec => drop_text(alloc, k, "BadFec"),
-        Reason::BadPart { code } => bad_part_text(alloc, k, code),
-        Reason::TooFar => drop_text(alloc, k, "TooFar"),
-        Reason::TooOld => drop_text(alloc, k, "TooOld"),
-        Reason::Dead => drop_text(alloc, k, "Dead"),
-        Reason::Repeat => drop_text(alloc, k, "Repeat"),
-        Reason::Form => drop_text(alloc, k, "Form"),
+        Reason::TooLong => Ok("TooLong"),
+        Reason::BadRtcp => Ok("BadRtcp"),
+        Reason::NotRtp => Ok("NotRtp"),
+        Reason::BadHeader => Ok("BadHeader"),
+        Reason::OtherSsrc => Ok("OtherSsrc"),
+        Reason::OtherType => Ok("OtherType"),
+        Reason::NoApt => Ok("NoApt"),
+        Reason::RtxEmpty => Ok("RtxEmpty"),
+        Reason::MoreBlocks => Ok("MoreBlocks"),
+        Reason::BadRed => Ok("BadRed"),
+        Reason::BadFec => Ok("BadFec"),
+        Reason::BadPart { code } => Err(code),
+        Reason::TooFar => Ok("TooFar"),
+        Reason::TooOld => Ok("TooOld"),
+        Reason::Dead => Ok("Dead"),
+        Reason::Repeat => Ok("Repeat"),
+        Reason::Form => Ok("Form"),
     }
 }
 
-/// The line of a pull that no frame was ready for.
-fn not_ready_text(alloc: Global, k: u32) -> Result<Vec<u8>, NoMemory>
-    ensures { IfOk result (λ text. text.items ≡ decimal k ++ codes " notready" ++ line_feed) }
+/// Puts the line of a datagram last that was refused, for this reason.
+#[tactic(auto, using(crate::proofs::KeepsLemmas::keeps_on))]
+fn push_dropped(text: &mut Vec<u8>, k: u32, reason: Reason) -> Result<(), NoMemory>
+    ensures ok { OnOk result (text.new.items ≡ text.old.items ++ decimal k ++ codes " drop " ++ reason_text reason ++ line_feed) }
+    ensures kept { Keeps text.old.items text.new.items }
 {
-    Ok(format!(in alloc; "{k} notready\n")?.into_bytes())
+    match reason_word(reason) {
+        Ok(word) => push_drop(text, k, word),
+        Err(code) => push_numbered(text, k, " drop BadPart ", u64::from(code)),
+    }
 }
 
-/// The first words of a frame's line: its first and its last number.
-fn frame_head(alloc: Global, k: u32, first: u64, last: u64) -> Result<Vec<u8>, NoMemory>
-    ensures { IfOk result (λ text.
-        text.items ≡ decimal k ++ codes " frame " ++ decimal first ++ codes " " ++ decimal last ++ codes " ") }
-{
-    Ok(format!(in alloc; "{k} frame {first} {last} ")?.into_bytes())
-}
-
-/// The next words of a frame's line: its kind and its timestamp.
-fn frame_kind(alloc: Global, key: bool, ts: u32) -> Result<String, NoMemory>
-    ensures { IfOk result (λ text.
-        string_bytes text ≡ kind_text key ++ codes " " ++ decimal ts ++ codes " ") }
-{
-    let kind = kind_text(key);
-    Ok(format!(in alloc; "{kind} {ts} ")?)
-}
-
-/// Writes the hexadecimal digits of octets into a text from a place on, up to its end.
-fn write_digits(octets: &[u8], text: &mut [u8], at: usize)
-    requires { length text.old ≡ at + 2 * length octets.now }
-    ensures front { take at text.new ≡ take at text.old }
-    ensures digits { drop at text.new ≡ encode_lower octets.now }
-{
-    hex::encode_to_slice(octets, &mut text[at..]).unwrap();
-}
-
-/// Puts the hexadecimal digits of octets last, and takes the memory for them and a line feed once.
-fn push_digits(octets: &[u8], text: &mut Vec<u8>) -> Result<(), NoMemory>
-    ensures { OnOk result (text.new.items ≡ text.old.items ++ encode_lower octets.now) }
-{
-    let start = text.len();
-    let end = start
-        .checked_add(octets.len())
-        .and_then(|half| half.checked_add(octets.len()))
-        .ok_or(NoMemory)?;
-    text.reserve(end - start + 1)?;
-    text.resize(end, 0)?;
-    write_digits(octets, text.as_mut_slice(), start);
-    Ok(())
-}
-
-/// A frame's line.
-fn frame_line(alloc: Global, k: u32, frame: &Frame) -> Result<Vec<u8>, NoMemory>
-    ensures { IfOk result (λ text.
-        text.items ≡ decimal k ++ codes " frame " ++ frame_text frame.now ++ line_feed) }
-{
-    let mut text = frame_head(alloc, k, frame.first, frame.last)?;
-    let kind = frame_kind(alloc, frame.key, frame.ts)?;
-    text.extend_from_slice(kind.as_bytes())?;
-    push_digits(frame.bytes.as_slice(), &mut text)?;
-    text.push(b'\n')?;
-    Ok(text)
-}
-
-/// The line that says what became of a datagram.
-fn what_text(alloc: Global, k: u32, what: What) -> Result<Vec<u8>, NoMemory>
-    ensures { IfOk result (λ text. text.items ≡ what_text_of k what) }
+/// Puts the line last that says what became of a datagram.
+#[tactic(auto, using(crate::proofs::KeepsLemmas::keeps_on))]
+fn push_what(text: &mut Vec<u8>, k: u32, what: What) -> Result<(), NoMemory>
+    ensures ok { OnOk result (text.new.items ≡ text.old.items ++ what_text k what) }
+    ensures kept { Keeps text.old.items text.new.items }
 {
     match what {
-        What::Media(n) => media_text(alloc, k, n),
-        What::Fec(n) => fec_text(alloc, k, n),
-        What::Empty(n) => empty_text(alloc, k, n),
-        What::Rtcp => rtcp_text(alloc, k),
-        What::Dropped(reason) => dropped_text(alloc, k, reason),
+        What::Media(n) => push_numbered(text, k, " media ", n),
+        What::Fec(n) => push_numbered(text, k, " fec ", n),
+        What::Empty(n) => push_numbered(text, k, " empty ", n),
+        What::Rtcp => push_head(text, k, " rtcp\n"),
+        What::Dropped(reason) => push_dropped(text, k, reason),
     }
-}
-
-/// The line of a repaired number.
-fn repaired_line(alloc: Global, k: u32, n: u64) -> Result<Vec<u8>, NoMemory>
-    ensures { IfOk result (λ text. text.items ≡ repaired_line_of k n) }
-{
-    Ok(format!(in alloc; "{k} repaired {n}\n")?.into_bytes())
 }
 
 /// Puts the line of each repaired number last.
-fn push_repaired(alloc: Global, k: u32, numbers: &[u64], text: &mut Vec<u8>) -> Result<(), NoMemory>
-    ensures { OnOk result (text.new.items ≡ text.old.items ++ repaired_text k numbers.now) }
+#[tactic(auto, using(crate::proofs::KeepsLemmas::keeps_on))]
+fn push_repaired(text: &mut Vec<u8>, k: u32, numbers: &[u64]) -> Result<(), NoMemory>
+    ensures ok { OnOk result (text.new.items ≡ text.old.items ++ repaired_text k numbers.now) }
+    ensures kept { Keeps text.old.items text.new.items }
 {
     for n in numbers {
-        let line = repaired_line(alloc, k, *n)?;
-        text.extend_from_slice(line.as_slice())?;
+        push_numbered(text, k, " repaired ", *n)?;
     }
     Ok(())
 }
 
-/// The line of a NACK with its octets.
-fn nack_line(alloc: Global, k: u32, octets: &[u8]) -> Result<Vec<u8>, NoMemory>
-    ensures { IfOk result (λ text.
-        text.items ≡ decimal k ++ codes " nack " ++ encode_lower octets.now ++ line_feed) }
-{
-    let digits = hex::encode(alloc, octets)?;
-    Ok(format!(in alloc; "{k} nack {digits}\n")?.into_bytes())
-}
-
-/// The line of a PLI with its octets.
-fn pli_line(alloc: Global, k: u32, octets: &[u8]) -> Result<Vec<u8>, NoMemory>
-    ensures { IfOk result (λ text.
-        text.items ≡ decimal k ++ codes " pli " ++ encode_lower octets.now ++ line_feed) }
-{
-    let digits = hex::encode(alloc, octets)?;
-    Ok(format!(in alloc; "{k} pli {digits}\n")?.into_bytes())
-}
-
 /// Puts the line of the NACK last, if there is one.
-fn push_nack(alloc: Global, k: u32, feedback: &Feedback, text: &mut Vec<u8>) -> Result<(), NoMemory>
-    ensures { OnOk result (text.new.items ≡ text.old.items ++ nack_text k feedback.now.nack) }
+#[tactic(auto, using(crate::proofs::KeepsLemmas::keeps_on))]
+fn push_nack(text: &mut Vec<u8>, k: u32, feedback: &Feedback) -> Result<(), NoMemory>
+    ensures ok { OnOk result (text.new.items ≡ text.old.items ++ nack_text k feedback.now.nack) }
+    ensures kept { Keeps text.old.items text.new.items }
 {
     match &feedback.nack {
-        Some(nack) => {
-            let line = nack_line(alloc, k, nack.as_slice())?;
-            Ok(text.extend_from_slice(line.as_slice())?)
-        }
+        Some(nack) => push_octet_line(text, k, " nack ", nack.as_slice()),
         None => Ok(()),
     }
 }
 
 /// Puts the line of the PLI last, if there is one.
-fn push_pli(alloc: Global, k: u32, feedback: &Feedback, text: &mut Vec<u8>) -> Result<(), NoMemory>
-    ensures { OnOk result (text.new.items ≡ text.old.items ++ pli_text k feedback.now.pli) }
+#[tactic(auto, using(crate::proofs::KeepsLemmas::keeps_on))]
+fn push_pli(text: &mut Vec<u8>, k: u32, feedback: &Feedback) -> Result<(), NoMemory>
+    ensures ok { OnOk result (text.new.items ≡ text.old.items ++ pli_text k feedback.now.pli) }
+    ensures kept { Keeps text.old.items text.new.items }
 {
     match &feedback.pli {
-        Some(pli) => {
-            let line = pli_line(alloc, k, pli)?;
-            Ok(text.extend_from_slice(line.as_slice())?)
-        }
+        Some(pli) => push_octet_line(text, k, " pli ", pli),
         None => Ok(()),
     }
 }
 
 /// Puts the lines of the feedback last.
-fn push_feedback(
-    alloc: Global,
-    k: u32,
-    feedback: &Feedback,
-    text: &mut Vec<u8>,
-) -> Result<(), NoMemory>
-    ensures { OnOk result (text.new.items ≡ text.old.items ++ feedback_text k feedback.now) }
+#[tactic(auto, using(crate::proofs::KeepsLemmas::keeps_on))]
+fn push_feedback(text: &mut Vec<u8>, k: u32, feedback: &Feedback) -> Result<(), NoMemory>
+    ensures ok { OnOk result (text.new.items ≡ text.old.items ++ feedback_text k feedback.now) }
+    ensures kept { Keeps text.old.items text.new.items }
 {
-    push_nack(alloc, k, feedback, text)?;
-    push_pli(alloc, k, feedback, text)
+    push_nack(text, k, feedback)?;
+    push_pli(text, k, feedback)
 }
 
-/// The first line of the reply to a tick.
-fn tick_line(alloc: Global, k: u32) -> Result<Vec<u8>, NoMemory>
-    ensures { IfOk result (λ text. text.items ≡ decimal k ++ codes " tick" ++ line_feed) }
+/// Puts the first words of a frame's line last: its first and its last number.
+#[tactic(auto, using(crate::proofs::KeepsLemmas::keeps_on))]
+fn push_frame_head(text: &mut Vec<u8>, k: u32, first: u64, last: u64) -> Result<(), NoMemory>
+    ensures ok { OnOk result (text.new.items ≡ text.old.items ++ decimal k ++ codes " frame " ++ decimal first ++ codes " " ++ decimal last ++ codes " ") }
+    ensures kept { Keeps text.old.items text.new.items }
 {
-    Ok(format!(in alloc; "{k} tick\n")?.into_bytes())
+    push_head(text, k, " frame ")?;
+    push_number(text, first)?;
+    push_octets(text, b" ")?;
+    push_number(text, last)?;
+    push_octets(text, b" ")
 }
 
-/// The lines of the reply to the datagram of line `k`: what became of it, each packet that it repaired, in order, and
-/// the feedback, first the NACK and then the PLI.
+/// Puts the next words of a frame's line last: its kind and its timestamp.
+#[tactic(auto, using(crate::proofs::KeepsLemmas::keeps_on))]
+fn push_frame_kind(text: &mut Vec<u8>, key: bool, ts: u32) -> Result<(), NoMemory>
+    ensures ok { OnOk result (text.new.items ≡ text.old.items ++ kind_text key ++ codes " " ++ decimal ts ++ codes " ") }
+    ensures kept { Keeps text.old.items text.new.items }
+{
+    push_octets(text, kind_text(key).as_bytes())?;
+    push_octets(text, b" ")?;
+    push_number(text, u64::from(ts))?;
+    push_octets(text, b" ")
+}
+
+/// Puts a frame's line last.
+#[tactic(auto, using(crate::proofs::KeepsLemmas::keeps_on))]
+fn push_frame(text: &mut Vec<u8>, k: u32, frame: &Frame) -> Result<(), NoMemory>
+    ensures ok { OnOk result (text.new.items ≡ text.old.items ++ decimal k ++ codes " frame " ++ frame_text frame.now ++ line_feed) }
+    ensures kept { Keeps text.old.items text.new.items }
+{
+    push_frame_head(text, k, frame.first, frame.last)?;
+    push_frame_kind(text, frame.key, frame.ts)?;
+    push_last_digits(text, frame.bytes.as_slice())
+}
+
+/// Puts the lines of a reply to a datagram last.
+#[tactic(auto, using(crate::proofs::KeepsLemmas::keeps_on))]
+fn push_handled(text: &mut Vec<u8>, k: u32, reply: &Handled) -> Result<(), NoMemory>
+    ensures ok { OnOk result (text.new.items ≡ text.old.items ++ handled_text k reply.now) }
+    ensures kept { Keeps text.old.items text.new.items }
+{
+    push_what(text, k, reply.what)?;
+    push_repaired(text, k, reply.repaired.as_slice())?;
+    push_feedback(text, k, &reply.feedback)
+}
+
+/// Puts the lines of a reply to a tick last.
+#[tactic(auto, using(crate::proofs::KeepsLemmas::keeps_on))]
+fn push_tick(text: &mut Vec<u8>, k: u32, feedback: &Feedback) -> Result<(), NoMemory>
+    ensures ok { OnOk result (text.new.items ≡ text.old.items ++ tick_text k feedback.now) }
+    ensures kept { Keeps text.old.items text.new.items }
+{
+    push_head(text, k, " tick\n")?;
+    push_feedback(text, k, feedback)
+}
+
+/// Puts the line of a reply to a pull last.
+#[tactic(auto, using(crate::proofs::KeepsLemmas::keeps_on))]
+fn push_pulled(text: &mut Vec<u8>, k: u32, reply: &Pulled) -> Result<(), NoMemory>
+    ensures ok { OnOk result (text.new.items ≡ text.old.items ++ pulled_text k reply.now) }
+    ensures kept { Keeps text.old.items text.new.items }
+{
+    match reply {
+        Pulled::NotReady => push_head(text, k, " notready\n"),
+        Pulled::Frame(frame) => push_frame(text, k, frame),
+    }
+}
+
+/// Puts the lines of the reply to the datagram of line `k` after a text: what became of it, each packet that it
+/// repaired, in order, and the feedback, first the NACK and then the PLI.
 ///
-/// It fails only for want of memory.
-#[tactic(auto, unfolding(crate::specs::Transcript::text_of))]
+/// It fails only if it is out of memory, and then the text is what it was.
+#[tactic(auto, using(crate::proofs::KeepsLemmas::keeps_cut), unfolding(crate::specs::Transcript::text_of))]
+pub fn write_handled(text: &mut Vec<u8>, k: u32, reply: &Handled) -> Result<(), NoMemory>
+    ensures ok { OnOk result (text.new.items ≡ text.old.items ++ text_of k (ToDatagram reply.now)) }
+    ensures err { OnErr result (text.new.items ≡ text.old.items) }
+{
+    let len = text.len();
+    match push_handled(text, k, reply) {
+        Ok(()) => Ok(()),
+        Err(NoMemory) => {
+            text.truncate(len);
+            Err(NoMemory)
+        }
+    }
+}
+
+/// What [`write_handled`] writes, in memory of its own. It fails only if it is out of memory.
 pub fn text_of_handled(alloc: Global, k: u32, reply: &Handled) -> Result<Vec<u8>, NoMemory>
     ensures text { IfOk result (λ text. text.items ≡ text_of k (ToDatagram reply.now)) }
 {
-    let mut text = what_text(alloc, k, reply.what)?;
-    push_repaired(alloc, k, reply.repaired.as_slice(), &mut text)?;
-    push_feedback(alloc, k, &reply.feedback, &mut text)?;
+    let mut text = Vec::new(alloc);
+    write_handled(&mut text, k, reply)?;
     Ok(text)
 }
 
-/// The lines of the reply to the tick of line `k`: that it was one, and the feedback, first the NACK and then the
-/// PLI.
+/// Puts the lines of the reply to the tick of line `k` after a text: that it was one, and the feedback, first the NACK
+/// and then the PLI.
 ///
-/// It fails only for want of memory.
-#[tactic(auto, unfolding(crate::specs::Transcript::text_of))]
+/// It fails only if it is out of memory, and then the text is what it was.
+#[tactic(auto, using(crate::proofs::KeepsLemmas::keeps_cut), unfolding(crate::specs::Transcript::text_of))]
+pub fn write_tick(text: &mut Vec<u8>, k: u32, feedback: &Feedback) -> Result<(), NoMemory>
+    ensures ok { OnOk result (text.new.items ≡ text.old.items ++ text_of k (ToTick feedback.now)) }
+    ensures err { OnErr result (text.new.items ≡ text.old.items) }
+{
+    let len = text.len();
+    match push_tick(text, k, feedback) {
+        Ok(()) => Ok(()),
+        Err(NoMemory) => {
+            text.truncate(len);
+            Err(NoMemory)
+        }
+    }
+}
+
+/// What [`write_tick`] writes, in memory of its own. It fails only if it is out of memory.
 pub fn text_of_tick(alloc: Global, k: u32, feedback: &Feedback) -> Result<Vec<u8>, NoMemory>
     ensures text { IfOk result (λ text. text.items ≡ text_of k (ToTick feedback.now)) }
 {
-    let mut text = tick_line(alloc, k)?;
-    push_feedback(alloc, k, feedback, &mut text)?;
+    let mut text = Vec::new(alloc);
+    write_tick(&mut text, k, feedback)?;
     Ok(text)
 }
 
-/// The line of the reply to the pull of line `k`. It fails only for want of memory.
-#[tactic(auto, unfolding(crate::specs::Transcript::text_of))]
+/// Puts the line of the reply to the pull of line `k` after a text.
+///
+/// It fails only if it is out of memory, and then the text is what it was.
+#[tactic(auto, using(crate::proofs::KeepsLemmas::keeps_cut), unfolding(crate::specs::Transcript::text_of))]
+pub fn write_pulled(text: &mut Vec<u8>, k: u32, reply: &Pulled) -> Result<(), NoMemory>
+    ensures ok { OnOk result (text.new.items ≡ text.old.items ++ text_of k (ToPull reply.now)) }
+    ensures err { OnErr result (text.new.items ≡ text.old.items) }
+{
+    let len = text.len();
+    match push_pulled(text, k, reply) {
+        Ok(()) => Ok(()),
+        Err(NoMemory) => {
+            text.truncate(len);
+            Err(NoMemory)
+        }
+    }
+}
+
+/// What [`write_pulled`] writes, in memory of its own. It fails only if it is out of memory.
 pub fn text_of_pulled(alloc: Global, k: u32, reply: &Pulled) -> Result<Vec<u8>, NoMemory>
     ensures text { IfOk result (λ text. text.items ≡ text_of k (ToPull reply.now)) }
 {
-    match reply {
-        Pulled::NotReady => not_ready_text(alloc, k),
-        Pulled::Frame(frame) => frame_line(alloc, k, frame),
-    }
+    let mut text = Vec::new(alloc);
+    write_pulled(&mut text, k, reply)?;
+    Ok(text)
 }
 
 /// The word for why a line is bad.
@@ -319,7 +370,7 @@ fn error_reason_text(reason: ErrorReason) -> &'static str
     }
 }
 
-/// The last line of a transcript, where line `k` is bad for this reason. It fails only for want of memory.
+/// The last line of a transcript, if line `k` is bad for this reason. It fails only if it is out of memory.
 #[tactic(auto, unfolding(crate::specs::Transcript::error_line))]
 pub fn text_of_error(alloc: Global, k: u32, reason: ErrorReason) -> Result<Vec<u8>, NoMemory>
     ensures text { IfOk result (λ text. text.items ≡ error_line k reason) }

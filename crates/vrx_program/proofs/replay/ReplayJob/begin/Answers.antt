@@ -1,6 +1,6 @@
 use Rattle.std.proofs.Common.{sym, ap, ◌∙◌}
 use Rattle.std.specs.Prelude.{Some, Ok}
-use Rattle.vrx_text.specs.declared.settings_line.CodecName.TheVariants.{Vp8, H264}
+use Rattle.vrx_capture.specs.declared.settings_line.CodecName.TheVariants.{Vp8, H264}
 use Rattle.vrx_text.specs.declared.transcript.ErrorReason.TheVariants.{Settings}
 use Rattle.vrx_program.specs.Replay.{taken}
 use Rattle.vrx_program.proofs.ReplayLemmas.{replay-begins, replay-refused, refused-why}

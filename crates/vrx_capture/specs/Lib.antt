@@ -1,0 +1,13 @@
+pub mod Words
+pub mod SettingsLine
+pub mod IsSettingsLine
+pub mod Line
+pub mod IsLine
+pub mod Reading
+pub mod Readings
+pub mod Joins
+pub mod Ahead
+pub mod Held
+pub mod Found
+pub mod Reader
+pub mod Step

@@ -1,5 +1,0 @@
-use Rattle.vrx_text.proofs.LinesLemmas.{one_line, last_line}
-use Rattle.vrx_text.proofs.laws.one_line.Goals as goal
-
-pub returns : goal.returns
-returns c = record { ended = one_line; last = last_line }

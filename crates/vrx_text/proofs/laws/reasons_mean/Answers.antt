@@ -1,5 +1,0 @@
-use Rattle.vrx_text.proofs.ReasonLemmas.{wrong_mean, blank_mean, happens_mean}
-use Rattle.vrx_text.proofs.laws.reasons_mean.Goals as goal
-
-pub returns : goal.returns
-returns c = record { wrong = wrong_mean; blank = blank_mean; happens = happens_mean }

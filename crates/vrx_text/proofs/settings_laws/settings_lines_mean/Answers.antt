@@ -1,5 +1,0 @@
-use Rattle.vrx_text.proofs.SettingsLineLemmas.{settings_mean}
-use Rattle.vrx_text.proofs.settings_laws.settings_lines_mean.Goals as goal
-
-pub returns : goal.returns
-returns c = record { spelled = settings_mean }
