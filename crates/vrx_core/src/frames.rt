@@ -2,8 +2,9 @@
 
 ghost use Rattle.std.specs.Prelude.{◌≡◌, ◌+◌, ◌-◌, ◌<◌, ◌≤◌, ◌==◌, nat_lt, nat_le, max, true, false, if◌then◌else◌, None, IfOk};
 ghost use Rattle.std.specs.List.{All, find, filter};
-ghost use Rattle.vrx_core.specs.inside.Kept.{due_of, from_of, plain};
+ghost use Rattle.vrx_core.specs.inside.Kept.{due_of, from_of, key_numbers, plain};
 ghost use Rattle.vrx_window.specs.Window.{at};
+ghost use Rattle.vrx_core.specs.relation.Order.{greatest_of};
 ghost use Rattle.vrx_core.specs.relation.Frames.{IsStanding, is_passed, next_of, nothing, runs_from, stands, with_run};
 
 use crate::keys::Keys;
@@ -105,6 +106,13 @@ impl Frames {
             self.gone = Some(last);
             self.keys.drop_through(last);
         }
+    }
+
+    /// The greatest first number of a keyframe.
+    pub fn greatest_key(&self) -> Option<u64>
+        ensures greatest { result ≡ greatest_of (key_numbers self.now.runs) }
+    {
+        self.keys.greatest()
     }
 
     /// The run that begins after the front, if it can be handed out.

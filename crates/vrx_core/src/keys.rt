@@ -2,7 +2,8 @@
 
 ghost use Rattle.std.specs.Prelude.{◌≡◌, ◌+◌, ◌<◌, ◌==◌, nat_le, nat_lt, true, false, [], length, drop, slice_get, IfOk};
 ghost use Rattle.std.specs.List.{filter, list_any};
-ghost use Rattle.vrx_core.specs.relation.Order.{put_by, rises_by};
+ghost use Rattle.vrx_num.specs.Extended.{greater};
+ghost use Rattle.vrx_core.specs.relation.Order.{greatest_of, put_by, rises_by};
 
 use std::alloc::Global;
 use std::cmp::Reverse;
@@ -16,6 +17,7 @@ use vrx_num::limits::WINDOW;
 #[derive(Drop)]
 pub(crate) struct Keys {
     heap: BinaryHeap<Reverse<u64>>,
+    greatest: Option<u64>,
 }
 
 impl Model for Keys {
@@ -27,7 +29,7 @@ impl Model for Keys {
 
     ghost view = { λ a. numbers_of (heap_items a.heap) };
 
-    ghost invariant = { λ a. IsLeastFirst (heap_items a.heap) (heap_capacity a.heap) };
+    ghost invariant = { λ a. IsLeastFirst (heap_items a.heap) (heap_capacity a.heap) a.greatest };
 }
 
 impl Keys {
@@ -37,6 +39,7 @@ impl Keys {
     {
         Ok(Keys {
             heap: BinaryHeap::with_capacity(alloc, WINDOW as usize)?,
+            greatest: None,
         })
     }
 
@@ -51,6 +54,13 @@ impl Keys {
         }
     }
 
+    /// The greatest number.
+    pub(crate) fn greatest(&self) -> Option<u64>
+        ensures greatest { result ≡ greatest_of self.now }
+    {
+        self.greatest
+    }
+
     /// Puts a number that isn't among them in its place.
     pub(crate) fn put(&mut self, n: u64)
         requires fresh { list_any (λ m. m == n) self.old ≡ false }
@@ -61,6 +71,7 @@ impl Keys {
             Ok(()) => {}
             Err(_) => unreachable!(),
         }
+        self.greatest = later(self.greatest, n);
     }
 
     /// Removes the numbers up to one.
@@ -91,5 +102,18 @@ impl Keys {
             Some(_) => {}
             None => {}
         }
+        if self.heap.is_empty() {
+            self.greatest = None;
+        }
+    }
+}
+
+/// The greater of a number, if there is one, and another.
+pub(crate) fn later(number: Option<u64>, n: u64) -> Option<u64>
+    ensures { result ≡ greater number n }
+{
+    match number {
+        Some(number) => Some(number.max(n)),
+        None => Some(n),
     }
 }

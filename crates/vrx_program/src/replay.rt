@@ -17,7 +17,7 @@ use vrx_codec::Codec;
 use vrx_core::{Engine, Event, NewFault, Settings};
 use vrx_h264::H264;
 use vrx_num::NoMemory;
-use vrx_text::{CodecName, ErrorReason, read_settings, text_of_handled, text_of_pulled};
+use vrx_text::{CodecName, ErrorReason, read_settings, text_of_handled, text_of_pulled, text_of_tick};
 use vrx_vp8::Vp8;
 
 /// A replay: the engine of the codec that the first line tells.
@@ -40,7 +40,7 @@ fn text_or_none(text: Result<Vec<u8>, NoMemory>) -> Result<Vec<u8>, Unanswered>
     }
 }
 
-/// The text of an engine's reply to an event. Ticks are refused.
+/// The text of an engine's reply to an event.
 fn reply_of<C: Codec>(
     alloc: Global,
     engine: &mut Engine<C>,
@@ -62,7 +62,10 @@ fn reply_of<C: Codec>(
             Ok(handled) => text_or_none(text_of_handled(alloc, k, &handled)),
             Err(_) => Err(Unanswered::NoMemory),
         },
-        Event::Tick { .. } => Err(Unanswered::Refused(ErrorReason::Later)),
+        Event::Tick { moment } => {
+            let feedback = engine.tick(*moment);
+            text_or_none(text_of_tick(alloc, k, &feedback))
+        }
         Event::Pull { moment } => match engine.pull(*moment) {
             Ok(pulled) => text_or_none(text_of_pulled(alloc, k, &pulled)),
             Err(_) => Err(Unanswered::NoMemory),

@@ -1,6 +1,9 @@
 mod BodyLemmas
 mod CompoundLemmas
+mod FeedbackLemmas
 mod HeaderLemmas
+mod NamedLemmas
 mod NumberLemmas
 mod PacketLemmas
+mod Rows
 mod TestLemmas

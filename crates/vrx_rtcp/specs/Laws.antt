@@ -1,8 +1,13 @@
--- What holds of packets and of compounds of them (RFC 3550 6.1 and 6.4), as statements on octets, each below 256.
-use Rattle.std.specs.Prelude.{◌≡◌, ℕ, ◌<◌, ◌⊎◌, ◌↔◌, true, false, List, ◌++◌, All, None}
+-- What holds of packets and of compounds of them (RFC 3550 6.1 and 6.4), as statements on octets, each below 256;
+-- and that feedback is read as it is written (RFC 4585 6.2.1 and 6.3.1).
+use Rattle.std.specs.Prelude.{◌≡◌, ℕ, ◌+◌, ◌-◌, ◌%◌, ◌^◌, ◌<◌, ◌≤◌, ◌⊎◌, ◌↔◌, true, false, List, [], ◌∷◌, ◌++◌, length, map, slice_index, All, None}
+use Rattle.std.specs.List.Sorted.{IsStrictlyIncreasing}
 use Rattle.vrx_rtcp.specs.declared.fault.RtcpFault.{RtcpFault}
-use Rattle.vrx_rtcp.specs.Packet.{Message, IsPacket, BeginsWithPacket}
+use Rattle.vrx_rtcp.specs.declared.types.TheConstants.{NACK_SPAN}
+use Rattle.vrx_rtcp.specs.Packet.{Message, Nack, Pli, IsPacket, BeginsWithPacket}
 use Rattle.vrx_rtcp.specs.Fault.{first_fault}
+use Rattle.vrx_rtcp.specs.Feedback.{nack_octets, pli_octets, items_octets, numbers_named}
+use Rattle.vrx_rtcp.specs.Field.{message, size}
 use Rattle.vrx_rtcp.specs.Compound.{Spelled, IsCompound, HasFault, is_compound}
 
 -- octets begin with one packet at most, and it says one thing
@@ -43,3 +48,23 @@ PassesCompounds = (datagram : List ℕ) → All (λ octet. octet < 256) datagram
 abbrev pub FailsFaults : Type 0
 FailsFaults = (datagram : List ℕ) → All (λ octet. octet < 256) datagram →
     (is_compound datagram ≡ false) ↔ ((fault : RtcpFault) × HasFault datagram fault)
+
+-- the octets are read as one packet, to their end, that says this
+pub record IsReadAs (octets : List ℕ) (says : Message) : Type 0 where
+  pub packet : IsPacket octets says
+  pub no_fault : first_fault octets ≡ None
+  pub message : message octets ≡ says
+  pub size : size octets ≡ length octets
+  pub compound : IsCompound octets (record { octets = octets; message = says } ∷ [])
+
+-- A NACK of numbers that rise, and lie no farther apart than one NACK takes, is read as a NACK between the same
+-- SSRCs, and its items name just the numbers, modulo 65,536 and in their order.
+abbrev pub ReadsNack : Type 0
+ReadsNack = (from media : ℕ) (numbers : List ℕ) → from < 2 ^ 32 → media < 2 ^ 32 →
+    IsStrictlyIncreasing numbers → slice_index numbers (length numbers - 1) ≤ slice_index numbers 0 + NACK_SPAN →
+    IsReadAs (nack_octets from media numbers) (Nack from media (items_octets numbers))
+    × (numbers_named (items_octets numbers) ≡ map (λ n. n % 65536) numbers)
+
+-- a picture loss indication is read as one between the same SSRCs
+abbrev pub ReadsPli : Type 0
+ReadsPli = (from media : ℕ) → from < 2 ^ 32 → media < 2 ^ 32 → IsReadAs (pli_octets from media) (Pli from media)

@@ -1,5 +1,6 @@
 pub mod Compound
 pub mod Fault
+pub mod Feedback
 pub mod Field
 pub mod Laws
 pub mod Packet

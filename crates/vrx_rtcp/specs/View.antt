@@ -1,10 +1,12 @@
 -- What the types of the code stand for.
-use Rattle.std.specs.Prelude.{ℕ}
+use Rattle.std.specs.Prelude.{ℕ, List}
 use Rattle.vrx_rtcp.specs.declared.fault.RtcpFault.{RtcpFault}
 use Rattle.vrx_rtcp.specs.declared.fault.RtcpFaultKind.{RtcpFaultKind}
 use Rattle.vrx_rtcp.specs.declared.packet.Body.{Body}
 use Rattle.vrx_rtcp.specs.declared.packet.Body.TheVariants as body
 use Rattle.vrx_rtcp.specs.declared.packet.SenderReport.{SenderReport}
+use Rattle.vrx_rtcp.specs.declared.writing.Item.{Item}
+use Rattle.vrx_rtcp.specs.Feedback.{blp_of}
 use Rattle.vrx_rtcp.specs.Packet.{SenderFields, Message, Sender, Report, Bye, Nack, Pli, Other}
 
 -- what a sender report says, wherever its blocks lie in memory
@@ -30,3 +32,7 @@ view (body.Other kind) = Other kind
 -- a fault of the packet at an offset
 abbrev pub told : ℕ → RtcpFaultKind → RtcpFault
 told at kind = record { kind = kind; at = at }
+
+-- the item of these numbers that begins with first
+abbrev pub item_of : List ℕ → ℕ → Item
+item_of numbers first = record { first = first; blp = blp_of numbers first }

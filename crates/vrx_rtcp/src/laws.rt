@@ -1,7 +1,7 @@
 //! What holds of the grammar itself.
 
 ghost use Rattle.vrx_rtcp.specs.Laws.{BeginsWithOne, HasNoFault, HasPacket};
-ghost use Rattle.vrx_rtcp.specs.Laws.{IsOneCompound, HasAnswer, HasOneFault, HasNotBoth, PassesCompounds, FailsFaults};
+ghost use Rattle.vrx_rtcp.specs.Laws.{IsOneCompound, HasAnswer, HasOneFault, HasNotBoth, PassesCompounds, FailsFaults, ReadsNack, ReadsPli};
 
 /// The laws of packets (RFC 3550 6.4). Octets begin with one packet at most, and it says one thing; if they
 /// begin with one there is no fault; and octets, each below 256, that have no fault begin with one. The
@@ -23,4 +23,11 @@ pub fn one_answer()
     ensures not_both { HasNotBoth }
     ensures passes { PassesCompounds }
     ensures fails { FailsFaults }
+{}
+
+/// The laws of feedback (RFC 4585 6.2.1 and 6.3.1): what `nack_of` and `pli` write is read as one packet that says
+/// the same, and the items of a NACK name just its numbers, modulo 65,536. The function does nothing.
+pub fn written_reads()
+    ensures nack { ReadsNack }
+    ensures pli { ReadsPli }
 {}

@@ -30,13 +30,15 @@ mod laws;
 mod packet;
 mod reading;
 pub mod types;
+mod writing;
 
 pub use compound::read_compound;
 pub use fault::{RtcpFault, RtcpFaultKind};
 pub use feedback::Feedback;
-pub use laws::{one_answer, one_packet};
+pub use laws::{one_answer, one_packet, written_reads};
 pub use packet::{Body, Bye, Nack, Packet, Pli, ReceiverReport, SenderReport};
 pub use reading::read_packet;
+pub use writing::{nack_of, pli};
 
 #[cfg(test)]
 mod tests;

@@ -1,4 +1,6 @@
-//! The packet types of RTCP (RFC 3550 12.1, RFC 4585 6.1), and the formats of feedback messages that are read.
+//! The packet types of RTCP (RFC 3550 12.1, RFC 4585 6.1), and the formats of feedback messages.
+
+use vrx_num::limits::WINDOW;
 
 /// A sender report.
 pub const SR: u8 = 200;
@@ -26,3 +28,9 @@ pub const FMT_NACK: u8 = 1;
 
 /// The format (FMT) of a picture loss indication, which is feedback of the payload (RFC 4585 6.3.1).
 pub const FMT_PLI: u8 = 1;
+
+/// BLP, in an item of a generic NACK, has a bit for each of so many numbers beyond PID (RFC 4585 6.2.1).
+pub const BLP_BITS: u64 = 16;
+
+/// The numbers of a generic NACK lie at most so far apart: in the window, below the newest.
+pub const NACK_SPAN: u64 = WINDOW - 2;

@@ -17,9 +17,9 @@ use Rattle.vrx_frames.specs.Front.{front_after}
 use Rattle.vrx_frames.specs.IsRun.{RunsApart, RunsAre, RunsRise}
 use Rattle.vrx_core.specs.machine.Machine.{snapshots}
 use Rattle.vrx_core.specs.relation.Frames.{Standing, is_passed, next_of, nothing as no_frames, runs_from}
-use Rattle.vrx_core.specs.relation.StandsFor.{Parts, StandsFor}
+use Rattle.vrx_core.specs.relation.StandsFor.{Assembly, IsAssembled}
 use Rattle.vrx_core.specs.inside.Step.{lowest_of}
-use Rattle.vrx_core.specs.inside.Fields.{AreFields, IsWhole, after_pulled, parts_of}
+use Rattle.vrx_core.specs.inside.Fields.{AreFields, IsWhole, after_pulled, assembly_of}
 use Rattle.vrx_core.specs.inside.Joins.{IsJoinable}
 use Rattle.vrx_core.specs.declared.count.Count.{Count}
 use Rattle.vrx_core.specs.declared.settings.Settings.{Settings}
@@ -47,10 +47,10 @@ whole-empty window is = subst (λ (w : Contents Held). IsWindow w) (sym is) (rec
 
 -- a new engine's fields
 pub fields-new : (codec : Meaning) (settings : Settings) (window : Contents Held) (known : Known) (frames : Standing) (extender : Option ℕ) → window ≡ nothing → known ≡ nothing_told → frames ≡ no_frames → extender ≡ None
-    → AreFields codec extender frames.from (parts_of settings (record { events = 0; clock = 0 }) window known frames None None)
+    → AreFields codec extender frames.from (assembly_of settings (record { events = 0; clock = 0 }) window known frames None None)
 fields-new codec settings window known frames extender window_is known_is frames_is extender_is = record {
   whole = record {
-    kept = kept-new codec (parts_of settings (record { events = 0; clock = 0 }) window known frames None None) refl window_is known_is (ap (λ (f : Standing). f.runs) frames_is) refl refl;
+    kept = kept-new codec (assembly_of settings (record { events = 0; clock = 0 }) window known frames None None) refl window_is known_is (ap (λ (f : Standing). f.runs) frames_is) refl refl;
     window = whole-empty window window_is;
   };
   newest = extender_is ∙ sym (ap (λ (w : Contents Held). w.newest) window_is);
@@ -59,12 +59,12 @@ fields-new codec settings window known frames extender window_is known_is frames
 }
 
 pub stands-new : (codec : Meaning) (settings : Settings) (window : Contents Held) (known : Known) (frames : Standing) → window ≡ nothing → known ≡ nothing_told → frames ≡ no_frames
-    → StandsFor codec (parts_of settings (record { events = 0; clock = 0 }) window known frames None None) []
+    → IsAssembled codec (assembly_of settings (record { events = 0; clock = 0 }) window known frames None None) []
 unfolding snapshots
 stands-new codec settings window known frames window_is known_is frames_is = record {
   events = refl;
   clock = refl;
-  stands = stands-opening codec (parts_of settings (record { events = 0; clock = 0 }) window known frames None None) window_is known_is (ap (λ (f : Standing). f.runs) frames_is) refl refl;
+  stands = stands-opening codec (assembly_of settings (record { events = 0; clock = 0 }) window known frames None None) window_is known_is (ap (λ (f : Standing). f.runs) frames_is) refl refl;
 }
 
 -- a number that isn't passed lies beyond the last number pulled
@@ -75,12 +75,12 @@ later (Some last) (Some front) n ahead beyond = let upto : last ≤ front = ahea
 
 -- a run was handed out
 pub fields-pulled : (are : RunsAre) (rise : RunsRise) (apart : RunsApart) (codec : Meaning) (settings : Settings) (count count' : Count) (window : Contents Held) (known : Known) (frames frames' : Standing) (last_pulled front front' extender : Option ℕ) (run : RunTold)
-    → AreFields codec extender frames.from (parts_of settings count window known frames last_pulled front) → next_of front frames.runs ≡ Some run → count.events < MOST_EVENTS → count'.events ≡ count.events + 1
+    → AreFields codec extender frames.from (assembly_of settings count window known frames last_pulled front) → next_of front frames.runs ≡ Some run → count.events < MOST_EVENTS → count'.events ≡ count.events + 1
     → frames'.from ≡ max frames.from (run.first + 1) → frames'.runs ≡ runs_from (run.first + 1) frames.runs → front' ≡ front_after front (Some run.last) (contents window.packets)
-    → AreFields codec extender frames'.from (parts_of settings count' window known frames' (Some run.last) front')
+    → AreFields codec extender frames'.from (assembly_of settings count' window known frames' (Some run.last) front')
 fields-pulled are rise apart codec settings count count' window known frames frames' last_pulled front front' extender run fields due room counts from runs front_is =
-    let before : Parts = parts_of settings count window known frames last_pulled front in
-    let after : Parts = parts_of settings count' window known frames' (Some run.last) front' in
+    let before : Assembly = assembly_of settings count window known frames last_pulled front in
+    let after : Assembly = assembly_of settings count' window known frames' (Some run.last) front' in
     let whole : IsWhole codec before = fields.whole in
     let joins : IsJoinable codec window.packets run = next-joinable are codec before run whole due in
     let beyond : is_passed front run.first ≡ false = all-in (λ r. is_passed front r.first ≡ false) frames.runs run (recursion_from_All (λ r. is_passed front r.first ≡ false) frames.runs (next-beyond codec before whole.kept)) (next-among front frames.runs run due) in

@@ -2,15 +2,15 @@ use Rattle.std.proofs.Common.{◌≡◌, Ok, subst, ap, ◌∙◌}
 use Rattle.std.specs.Result.{result_map_both}
 use Rattle.vrx_window.specs.Content.{contents_of}
 use Rattle.vrx_core.specs.machine.Verdict.{verdict}
-use Rattle.vrx_core.specs.relation.StandsFor.{Parts}
+use Rattle.vrx_core.specs.relation.StandsFor.{Assembly}
 use Rattle.vrx_core.specs.inside.Fields.{IsNear, MayBeTaken}
 use Rattle.vrx_core.specs.inside.Seen.{view_taken}
 use Rattle.vrx_core.proofs.step.TakeLemmas.{handled-taken}
-use Rattle.vrx_core.proofs.engine.Engine.handle.Goals as goal
+use Rattle.vrx_core.proofs.assembler.Assembler.handle.Goals as goal
 
 pub take-requires-clause-may : goal.take-requires-clause-may
 take-requires-clause-may g c =
-    subst (λ (p : Parts). MayBeTaken g.C.Codec.meaning p.window c.in-Ok.taken.number c.in_ok-held-in-Ok.held) c.self.view_is (record {
+    subst (λ (p : Assembly). MayBeTaken g.C.Codec.meaning p.window c.in-Ok.taken.number c.in_ok-held-in-Ok.held) c.self.view_is (record {
       fresh = c.in-Ok.ensures.fresh;
       near = subst (λ o. IsNear o c.in-Ok.taken.number) c.self.invariant.newest c.in-Ok.ensures.reach;
       sound = c.in_ok-held-in-Ok.ensures.sound;
@@ -20,12 +20,12 @@ take-requires-clause-may g c =
 pub returns-in_ok-held-in-Ok-clause-handled : goal.returns-in_ok-held-in-Ok-clause-handled
 returns-in_ok-held-in-Ok-clause-handled g c =
     let taken = view_taken c.in-Ok.taken in
-    let may = subst (λ (p : Parts). MayBeTaken g.C.Codec.meaning p.window c.in-Ok.taken.number c.in_ok-held-in-Ok.held) c.self.view_is (record {
+    let may = subst (λ (p : Assembly). MayBeTaken g.C.Codec.meaning p.window c.in-Ok.taken.number c.in_ok-held-in-Ok.held) c.self.view_is (record {
       fresh = c.in-Ok.ensures.fresh;
       near = subst (λ o. IsNear o c.in-Ok.taken.number) c.self.invariant.newest c.in-Ok.ensures.reach;
       sound = c.in_ok-held-in-Ok.ensures.sound;
       plain = c.in_ok-held-in-Ok.ensures.plain;
     }) in
     handled-taken g.C.Codec.meaning c.args.self.now c.take.new.self c.args.moment c.args.octets.now c.answer_taken.result c.in-Ok.taken.number taken.1 c.in_ok-held-in-Ok.held
-    (subst (λ (p : Parts). verdict p.settings g.C.Codec.meaning (contents_of p.window) c.args.octets.now ≡ Ok (c.in-Ok.taken.number, taken.1)) c.self.view_is (c.verdict.ensures.value ∙ ap (result_map_both view_taken (λ left. left)) c.in-Ok.is))
+    (subst (λ (p : Assembly). verdict p.settings g.C.Codec.meaning (contents_of p.window) c.args.octets.now ≡ Ok (c.in-Ok.taken.number, taken.1)) c.self.view_is (c.verdict.ensures.value ∙ ap (result_map_both view_taken (λ left. left)) c.in-Ok.is))
     c.in_ok-held-in-Ok.ensures.content may c.take.ensures.taken c.take.ensures.counts c.answer_taken.ensures

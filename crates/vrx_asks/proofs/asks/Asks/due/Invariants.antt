@@ -1,0 +1,12 @@
+use Rattle.std.proofs.Common.{◌≤◌}
+use Rattle.std.specs.Vec.{vec_capacity}
+use Rattle.vrx_num.specs.declared.limits.TheConstants.{WINDOW}
+use Rattle.vrx_asks.proofs.DueLemmas.{IsSettled}
+use Rattle.vrx_asks.proofs.asks.Asks.due.Given as goal
+
+-- the first asks are settled, and there is room as before
+abbrev pub invariant-loop-i : goal.invariant-loop-i
+invariant-loop-i l = record {
+  settled : IsSettled l.now l.interval l.initial.self-inside.asks.items l.self-inside.asks.items l.kept l.i l.due.ask.items l.due.give_up.items;
+  room : WINDOW ≤ vec_capacity l.self-inside.asks;
+}

@@ -1,0 +1,4 @@
+pub mod Asks
+pub mod IsAsks
+pub mod Kept
+pub mod KeyAsk
