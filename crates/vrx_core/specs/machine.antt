@@ -18,3 +18,4 @@ pub mod Answers
 pub mod Passed
 pub mod PulledRise
 pub mod Clock
+pub mod Asking
