@@ -312,10 +312,29 @@ fn reads_compounds(rt: HostRuntime) -> Result<(), AllocError> {
 }
 
 #[test]
-fn holds_feedback(rt: HostRuntime) {
+fn writes_feedback(rt: HostRuntime) {
+    // worked by hand from the figures of RFC 4585 6.2.1: from 11, on the media 10
+    let cases: [(&[u64], &[u8]); 7] = [
+        (&[65_536], &[0x81, 0xcd, 0, 3, 0, 0, 0, 11, 0, 0, 0, 10, 0, 0, 0, 0]),
+        (&[65_538], &[0x81, 0xcd, 0, 3, 0, 0, 0, 11, 0, 0, 0, 10, 0, 2, 0, 0]),
+        (&[65_538, 65_539], &[0x81, 0xcd, 0, 3, 0, 0, 0, 11, 0, 0, 0, 10, 0, 2, 0, 1]),
+        (&[65_538, 65_540], &[0x81, 0xcd, 0, 3, 0, 0, 0, 11, 0, 0, 0, 10, 0, 2, 0, 2]),
+        // 16 beyond the first, and 17
+        (&[65_538, 65_554], &[0x81, 0xcd, 0, 3, 0, 0, 0, 11, 0, 0, 0, 10, 0, 2, 0x80, 0]),
+        (
+            &[65_538, 65_555],
+            &[0x81, 0xcd, 0, 4, 0, 0, 0, 11, 0, 0, 0, 10, 0, 2, 0, 0, 0, 19, 0, 0],
+        ),
+        // over the wrap
+        (&[131_071, 131_072], &[0x81, 0xcd, 0, 3, 0, 0, 0, 11, 0, 0, 0, 10, 255, 255, 0, 1]),
+    ];
+    for (numbers, octets) in cases {
+        assert_eq!(rt; nack_of(11, 10, numbers).as_slice(), octets, "{numbers:?}");
+    }
+    assert_eq!(rt; pli(11, 10), LOSS);
     let feedback = Feedback {
         nack: None,
-        pli: Some(LOSS),
+        pli: Some(pli(11, 10)),
     };
     assert_eq!(rt; feedback.nack.is_none(), true);
     assert_eq!(rt; feedback.pli, Some(LOSS));
