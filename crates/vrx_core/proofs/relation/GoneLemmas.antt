@@ -141,7 +141,7 @@ unfolding snapshots
 remembers settings codec [] = record { upto = λ n there. absurd (true≢false (sym there)); gone = ((λ n there. absurd (true≢false (sym there))), tt) }
 remembers settings codec (Datagram moment octets ∷ h) =
     remembers-datagram codec (snapshots settings codec h) moment (verdict settings codec (latest (snapshots settings codec h)).window octets) (remembers settings codec h)
-remembers settings codec (Tick moment ∷ h) = same-window (latest (snapshots settings codec h)).window (times (snapshots settings codec h)) (remembers settings codec h)
+remembers settings codec (Tick moment ∷ h) = let r = same-window (latest (snapshots settings codec h)).window (times (snapshots settings codec h)) (remembers settings codec h) in record { upto = r.upto; gone = r.gone }
 remembers settings codec (Pull moment ∷ h) = remembers-pull codec (snapshots settings codec h) moment (next_run (latest (snapshots settings codec h))) (remembers settings codec h)
 
 -- a number that is neither available nor too old never stood right after the end of a frame

@@ -68,15 +68,15 @@ is_lost_open standing pulled lost = option_map_or (is_open standing pulled) lost
 
 -- a keyframe is asked for, if one is wanted and no request is outstanding
 abbrev pub asks_key : (now : ℕ) → Bool → Option ℕ → Bool
-asks_key now wants open = wants && not (is_outstanding now open)
+asks_key now wants last = wants && not (is_outstanding now last)
 
--- the open request after that
+-- the last request after that
 abbrev pub key_after : (now : ℕ) → Bool → Option ℕ → Option ℕ
-key_after now wants open = if asks_key now wants open then Some now else open
+key_after now wants last = if asks_key now wants last then Some now else last
 
--- the open request, unless a keyframe completed
+-- the last request, unless a keyframe completed
 abbrev pub open_after : Bool → Option ℕ → Option ℕ
-open_after completed open = if completed then None else open
+open_after completed last = if completed then None else last
 
 -- what is wanted once a packet was taken: the keyframe with the greatest first number that stands, if one does, is key
 abbrev pub wanted_taken : (now : ℕ) → Arrival → (front key : Option ℕ) → Wanted → Wanted
