@@ -4,3 +4,4 @@ pub mod EventLemmas
 pub mod RunLemmas
 pub mod FieldLemmas
 pub mod TakeLemmas
+pub mod LostLemmas

@@ -1,8 +1,9 @@
 //! The assembler: packets in, whole frames out.
 
-ghost use Rattle.std.specs.Prelude.{◌≡◌, ◌+◌, ◌-◌, ◌^◌, ◌<◌, ◌≤◌, min, List, [], ◌∷◌, Some, None, OnOk, OnErr, IfOk, IfErr, IsOk, IsErr};
+ghost use Rattle.std.specs.Prelude.{◌≡◌, ◌+◌, ◌-◌, ◌^◌, ◌<◌, ◌≤◌, min, false, List, [], ◌∷◌, Some, None, OnOk, OnErr, IfOk, IfErr, IsOk, IsErr};
 ghost use Rattle.std.specs.List.{list_any};
 ghost use Rattle.vrx_window.specs.Content.{contents_of};
+ghost use Rattle.vrx_window.specs.Window.{is_dead as is_dead_in, is_too_old};
 ghost use Rattle.vrx_core.specs.machine.Machine.{answer_of as answer_of_left, answer_taken as answer_taken_of};
 ghost use Rattle.vrx_core.specs.machine.Verdict.{verdict as verdict_of};
 ghost use Rattle.vrx_core.specs.relation.Order.{greatest_of};
@@ -124,6 +125,20 @@ fn add_all(frames: &mut Frames, runs: &[Run])
     }
 }
 
+/// Gives up numbers, one after the other.
+fn give_up_all(window: &mut Window, numbers: &[u64])
+    requires fresh { CanGiveUpAll numbers.now window.old }
+    ensures { window.new ≡ given_up_all numbers.now window.old }
+{
+    match numbers {
+        [] => {}
+        [n, rest @ ..] => {
+            window.give_up(*n);
+            give_up_all(window, rest);
+        }
+    }
+}
+
 /// Whether one of these runs is a keyframe.
 fn has_key(runs: &[Run]) -> bool
     ensures { result ≡ list_any (λ run. run.key) runs.now }
@@ -131,6 +146,19 @@ fn has_key(runs: &[Run]) -> bool
     match runs {
         [] => false,
         [run, rest @ ..] => run.key || has_key(rest),
+    }
+}
+
+/// Whether a number that isn't too old was given up.
+fn is_dead(window: &Window, n: u64) -> bool
+    requires young { is_too_old window.now.newest n ≡ false }
+    ensures { result ≡ is_dead_in n window.now.dead }
+{
+    match window.would(n) {
+        Placing::Dead => true,
+        Placing::TooOld => false,
+        Placing::Repeat => false,
+        Placing::Fresh => false,
     }
 }
 
@@ -154,9 +182,10 @@ fn greatest_lost(window: &Window, front: Option<u64>, n: u64) -> Option<u64>
     };
     let low = after(front).max(first).max(newest.saturating_sub(WINDOW - 1));
     let high = newest.max(n).saturating_sub(WINDOW - 1);
-    for back in 1..=high.saturating_sub(low) {
-        if window.would(high - back) != Placing::Dead {
-            return Some(high - back);
+    for back in 0..high.saturating_sub(low) {
+        let last = high - 1 - back;
+        if !is_dead(window, last) {
+            return Some(last);
         }
     }
     None
@@ -282,9 +311,7 @@ impl<C: Codec> Assembler<C> {
         ensures given_up { self.new ≡ record self.old { window = given_up_all numbers.now self.old.window } }
         ensures after { IsWhole C.meaning self.new }
     {
-        for n in numbers {
-            self.window.give_up(*n);
-        }
+        give_up_all(&mut self.window, numbers);
     }
 
     /// Counts an event, and moves the clock.

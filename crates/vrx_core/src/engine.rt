@@ -9,6 +9,7 @@ ghost use Rattle.vrx_core.specs.machine.Verdict.{verdict as verdict_of};
 ghost use Rattle.vrx_core.specs.machine.SettingsFault.{IsFault, fault_of};
 ghost use Rattle.vrx_core.specs.machine.Reasons.{MeansAnswer};
 ghost use Rattle.vrx_core.specs.relation.StandsFor.{StandsFor};
+ghost use Rattle.vrx_core.specs.inside.Wants.{AreNear};
 ghost use Rattle.vrx_core.specs.declared.event.Event.{Event};
 ghost use Rattle.vrx_core.specs.declared.reply.What.{What};
 

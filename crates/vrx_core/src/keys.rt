@@ -3,7 +3,7 @@
 ghost use Rattle.std.specs.Prelude.{◌≡◌, ◌+◌, ◌<◌, ◌==◌, nat_le, nat_lt, true, false, [], length, drop, slice_get, IfOk};
 ghost use Rattle.std.specs.List.{filter, list_any};
 ghost use Rattle.vrx_num.specs.Extended.{greater};
-ghost use Rattle.vrx_core.specs.relation.Order.{greatest_of, put_by, rises_by};
+ghost use Rattle.vrx_core.specs.relation.Order.{put_by, rises_by};
 
 use std::alloc::Global;
 use std::cmp::Reverse;
@@ -17,7 +17,6 @@ use vrx_num::limits::WINDOW;
 #[derive(Drop)]
 pub(crate) struct Keys {
     heap: BinaryHeap<Reverse<u64>>,
-    greatest: Option<u64>,
 }
 
 impl Model for Keys {
@@ -29,7 +28,7 @@ impl Model for Keys {
 
     ghost view = { λ a. numbers_of (heap_items a.heap) };
 
-    ghost invariant = { λ a. IsLeastFirst (heap_items a.heap) (heap_capacity a.heap) a.greatest };
+    ghost invariant = { λ a. IsLeastFirst (heap_items a.heap) (heap_capacity a.heap) };
 }
 
 impl Keys {
@@ -39,7 +38,6 @@ impl Keys {
     {
         Ok(Keys {
             heap: BinaryHeap::with_capacity(alloc, WINDOW as usize)?,
-            greatest: None,
         })
     }
 
@@ -54,13 +52,6 @@ impl Keys {
         }
     }
 
-    /// The greatest number.
-    pub(crate) fn greatest(&self) -> Option<u64>
-        ensures greatest { result ≡ greatest_of self.now }
-    {
-        self.greatest
-    }
-
     /// Puts a number that isn't among them in its place.
     pub(crate) fn put(&mut self, n: u64)
         requires fresh { list_any (λ m. m == n) self.old ≡ false }
@@ -71,7 +62,6 @@ impl Keys {
             Ok(()) => {}
             Err(_) => unreachable!(),
         }
-        self.greatest = later(self.greatest, n);
     }
 
     /// Removes the numbers up to one.
@@ -101,9 +91,6 @@ impl Keys {
         match self.heap.pop() {
             Some(_) => {}
             None => {}
-        }
-        if self.heap.is_empty() {
-            self.greatest = None;
         }
     }
 }

@@ -1,6 +1,6 @@
 //! What is wanted: missing packets, and a keyframe.
 
-ghost use Rattle.std.specs.Prelude.{◌≡◌, ◌+◌, ◌-◌, ◌<◌, ◌≤◌, ◌^◌, ◌++◌, nat_lt, true, false, [], None, IfOk, MatchOption};
+ghost use Rattle.std.specs.Prelude.{◌≡◌, ◌+◌, ◌-◌, ◌<◌, ◌≤◌, ◌^◌, ◌++◌, nat_lt, true, false, [], None, IfOk, IfSome};
 ghost use Rattle.std.specs.Option.{option_map_or};
 ghost use Rattle.vrx_num.specs.declared.limits.TheConstants.{WINDOW as WINDOW_SIZE};
 ghost use Rattle.vrx_asks.specs.Asks.{are_below, asked_numbers, given_up_numbers, is_near};
@@ -89,14 +89,29 @@ fn is_lost_open(standing: Option<u64>, pulled: Option<u64>, lost: Option<u64>) -
 
 /// Where the numbers begin that are missing once the newest number has moved from one to another.
 fn gap_from(before: Option<u64>, after: u64) -> u64
-    requires below { MatchOption before (after < 2 ^ 64) (λ m. m ≤ after) }
+    requires short { IfSome before (λ m. m < 2 ^ 62) }
     ensures { result ≡ gap_start before after }
 {
     match before {
         None => after,
-        Some(before) if before < after => (before + 1).max(after.saturating_sub(WINDOW - 1)),
-        Some(before) => before,
+        Some(before) => (before + 1).max(after.saturating_sub(WINDOW - 1)),
     }
+}
+
+/// The numbers from one on, below another, are missing, and are asked for at this moment.
+fn notice(asks: &mut Asks, from: u64, below: u64, now: u64) -> ArrayVec<u64, 2048>
+    requires above { are_below from asks.old ≡ true }
+    requires near { is_near (below - 1) asks.old ≡ true }
+    requires few { below < from + WINDOW_SIZE }
+    ensures noticed { asks.new ≡ with_all_missing now (numbers_below from below) asks.old }
+    ensures numbers { result.items ≡ numbers_below from below }
+{
+    let mut numbers = ArrayVec::new();
+    for n in from..below {
+        asks.noticed(n, now);
+        numbers.push(n);
+    }
+    numbers
 }
 
 impl Requests {
@@ -130,6 +145,7 @@ impl Requests {
         key: Option<u64>,
     ) -> Asked
         requires below { AreBelow arrival.now.newest self.old.asks }
+        requires short { IfSome arrival.now.newest (λ m. m < 2 ^ 62) }
         ensures wanted { self.new ≡ wanted_taken now arrival.now front key self.old }
         ensures numbers { result.numbers.items ≡ gap_of arrival.now.newest arrival.now.number }
         ensures key { result.key ≡ key_taken now arrival.now key self.old }
@@ -138,7 +154,7 @@ impl Requests {
         self.asks.arrived(arrival.number);
         self.asks.passed(after.saturating_sub(WINDOW));
         self.pass(front);
-        let numbers = self.notice(gap_from(arrival.newest, after), after, now);
+        let numbers = notice(&mut self.asks, gap_from(arrival.newest, after), after, now);
         self.lost = later_of(arrival.lost, self.lost);
         if arrival.key {
             self.keyed = true;
@@ -192,21 +208,5 @@ impl Requests {
         if let Some(front) = front {
             self.asks.passed(front);
         }
-    }
-
-    /// The numbers from one on, below another, are missing, and are asked for.
-    fn notice(&mut self, from: u64, below: u64, now: u64) -> ArrayVec<u64, 2048>
-        requires above { are_below from self.old.asks ≡ true }
-        requires near { is_near (below - 1) self.old.asks ≡ true }
-        requires few { below < from + WINDOW_SIZE }
-        ensures noticed { self.new ≡ record self.old { asks = with_all_missing now (numbers_below from below) self.old.asks } }
-        ensures numbers { result.items ≡ numbers_below from below }
-    {
-        let mut numbers = ArrayVec::new();
-        for n in from..below {
-            self.asks.noticed(n, now);
-            numbers.push(n);
-        }
-        numbers
     }
 }

@@ -22,10 +22,11 @@ use Rattle.vrx_core.specs.machine.Standing.{no_layers}
 use Rattle.vrx_core.specs.relation.Frames.{Standing, runs_from, with_run}
 use Rattle.vrx_core.specs.relation.StandsFor.{Assembly}
 use Rattle.vrx_core.specs.inside.Step.{AreTaken, IsTakenAs, lowest_of, with_runs}
-use Rattle.vrx_core.specs.inside.Fields.{AreFields, CanAddAll, ComesOf, IsCounted, IsHandled, IsNear, MayBeTaken, after_pulled, assembly_of}
+use Rattle.vrx_core.specs.inside.Fields.{AreFields, CanAddAll, ComesOf, IsHandled, IsNear, IsTakenWith, MayBeTaken, after_pulled, assembly_of}
 use Rattle.vrx_core.specs.declared.count.Count.{Count}
 use Rattle.vrx_core.specs.declared.settings.Settings.{Settings}
-use Rattle.vrx_core.specs.declared.reply.What.{What}
+use Rattle.vrx_core.specs.declared.assembler.Arrival.{Arrival}
+use Rattle.vrx_core.specs.declared.assembler.Outcome.{Outcome}
 use Rattle.vrx_core.proofs.relation.CallLemmas.{CanAdd, CanBeAdded, CanComplete, answers-added, can-complete, completes-plain, taken-placed}
 use Rattle.vrx_core.proofs.relation.KeptLemmas.{kept-taken}
 use Rattle.vrx_core.proofs.relation.WindowLemmas.{window-order}
@@ -148,10 +149,10 @@ module _ (are : RunsAre) (rise : RunsRise) (codec : Meaning) (settings : Setting
       }
 
 -- a datagram that was taken was handled
-pub handled-taken : (codec : Meaning) (before after : Assembly) (moment : ℕ) (octets : List ℕ) (what : What) (n : ℕ) (content : Content) (held : Held)
-    → verdict before.settings codec (contents_of before.window) octets ≡ Ok (n, content) → content_of held ≡ content → MayBeTaken codec before.window n held → IsTakenAs codec before after n held → IsCounted before after moment
-    → what ≡ answer_taken n content → IsHandled codec before after moment octets what
-handled-taken codec before after moment octets what n content held is content_is may taken counts what_is = record {
+pub handled-taken : (codec : Meaning) (before after : Assembly) (moment : ℕ) (octets : List ℕ) (outcome : Outcome) (n : ℕ) (content : Content) (arrival : Arrival)
+    → verdict before.settings codec (contents_of before.window) octets ≡ Ok (n, content) → IsTakenWith codec before after moment n content arrival
+    → outcome.what ≡ answer_taken n content → outcome.arrival ≡ Some arrival → IsHandled codec before after moment octets outcome
+handled-taken codec before after moment octets outcome n content arrival is taken what_is arrival_is = record {
   answer = what_is ∙ sym (ap what_of is);
-  comes = subst (λ v. ComesOf codec before after moment v) (sym is) (held, content_is, may, taken, counts);
+  comes = subst (λ v. ComesOf codec before after moment outcome.arrival v) (sym is) (arrival, arrival_is, taken);
 }

@@ -1,11 +1,11 @@
 -- How a heap stands for numbers: the least is on top.
-use Rattle.std.specs.Prelude.{◌≡◌, ℕ, ◌≤◌, true, List, Option}
+use Rattle.std.specs.Prelude.{◌≡◌, ℕ, ◌≤◌, true, List}
 use Rattle.std.specs.BinaryHeap.{IsHeap}
 use Rattle.std.specs.Ordering.{nat_cmp}
 use Rattle.std.specs.declared.cmp.Ordering.{Ordering}
 use Rattle.std.specs.declared.cmp.Reverse.{Reverse}
 use Rattle.vrx_num.specs.declared.limits.TheConstants.{WINDOW}
-use Rattle.vrx_core.specs.relation.Order.{greatest_of, rises_by, sorted_by}
+use Rattle.vrx_core.specs.relation.Order.{rises_by, sorted_by}
 
 -- the order of a heap whose top is the least
 abbrev pub reversed : Reverse ℕ → Reverse ℕ → Ordering
@@ -15,10 +15,8 @@ reversed x y = nat_cmp y.0 x.0
 abbrev pub numbers_of : List (Reverse ℕ) → List ℕ
 numbers_of items = sorted_by (λ x. x.0) items
 
--- what a heap holds is in its order; the numbers rise, so that none stands twice; there is room for 2,048; and their
--- greatest is known
-pub record IsLeastFirst (items : List (Reverse ℕ)) (capacity : ℕ) (greatest : Option ℕ) : Type 0 where
+-- what a heap holds is in its order; the numbers rise, so that none stands twice; and there is room for 2,048
+pub record IsLeastFirst (items : List (Reverse ℕ)) (capacity : ℕ) : Type 0 where
   pub ordered : IsHeap reversed items
   pub rise : rises_by (λ n. n) (numbers_of items) ≡ true
   pub room : WINDOW ≤ capacity
-  pub greatest_is : greatest ≡ greatest_of (numbers_of items)

@@ -1,7 +1,9 @@
 -- What is wanted, event by event: one event over what an engine keeps of the requests.
-use Rattle.std.specs.Prelude.{◌≡◌, ℕ, ◌+◌, ◌-◌, ◌<◌, ◌^◌, Bool, true, false, not, ◌&&◌, ◌||◌, nat_lt, max, if◌then◌else◌, List, [], ◌∷◌, length, slice_get, Contains, Option, Some, None, IsSomeAnd, is_some}
+use Rattle.std.specs.Prelude.{◌≡◌, ℕ, ◌+◌, ◌-◌, ◌<◌, ◌≤◌, ◌^◌, Bool, true, false, not, ◌&&◌, ◌||◌, nat_lt, max, if◌then◌else◌, List, [], ◌∷◌, length, slice_get, slice_index, Contains, Option, Some, None, IsSomeAnd, is_some}
 use Rattle.std.specs.List.{All, filter}
+use Rattle.std.specs.List.Sorted.{IsStrictlyIncreasing}
 use Rattle.std.specs.Option.{option_map_or, unwrap_or}
+use Rattle.vrx_rtcp.specs.declared.types.TheConstants.{NACK_SPAN}
 use Rattle.vrx_num.specs.Extended.{greater}
 use Rattle.vrx_num.specs.declared.limits.TheConstants.{WINDOW}
 use Rattle.vrx_asks.specs.Asks.{are_below, asked_numbers, asks_left, beyond, given_up_numbers, with_missing, without}
@@ -132,3 +134,8 @@ AreBelow newest asks = All (λ ask. IsSomeAnd newest (λ m. ask.number < m)) ask
 -- before the first event
 abbrev pub nothing_wanted : Wanted
 nothing_wanted = record { asks = []; lost = None; key_pulled = None; keyed = false; key_asked = None }
+
+-- numbers rise, and the last is at most 2,046 above the first: a NACK has room for their items
+pub record AreNear (numbers : List ℕ) : Type 0 where
+  pub rise : IsStrictlyIncreasing numbers
+  pub near : 1 ≤ length numbers → slice_index numbers (length numbers - 1) ≤ slice_index numbers 0 + NACK_SPAN
