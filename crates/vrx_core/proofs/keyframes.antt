@@ -1,0 +1,4 @@
+-- Lemmas on requests for a keyframe.
+pub mod AnsweredLemmas
+pub mod KeyWantsLemmas
+pub mod KeyLawLemmas
