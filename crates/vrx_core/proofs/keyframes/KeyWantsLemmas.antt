@@ -200,15 +200,16 @@ none-begins n frames none = false_from_ne_true (stands n frames) (λ h.
 begins-there : (frames : List RunTold) (f : RunTold) → Contains frames f → stands f.first frames ≡ true
 begins-there frames f there = list_any-to (λ (run : RunTold). run.first == f.first) frames f there (eq-eqb f.first f.first refl)
 
+-- a keyframe that begins where none of these runs does
+abbrev is_new : List RunTold → RunTold → Bool
+is_new frames run = run.key && not (stands run.first frames)
+
 -- with answers that begin where none stood, a keyframe completes if one of them is a keyframe
 pub added-completes : (low : ℕ) (frames answers : List RunTold) → Apart answers frames → completes_told frames (with_runs answers (runs_from low frames)) ≡ list_any (λ (run : RunTold). run.key) answers
 added-completes low frames answers apart = same_test (completes_told frames (with_runs answers (runs_from low frames))) (list_any (λ (run : RunTold). run.key) answers) to back where
-  abbrev is_new : RunTold → Bool
-  is_new run = run.key && not (stands run.first frames)
-
   to : completes_told frames (with_runs answers (runs_from low frames)) ≡ true → list_any (λ (run : RunTold). run.key) answers ≡ true
   to h =
-      let r : (run : RunTold) × Contains (with_runs answers (runs_from low frames)) run × (is_new run ≡ true) = list_any-from is_new (with_runs answers (runs_from low frames)) h in
+      let r : (run : RunTold) × Contains (with_runs answers (runs_from low frames)) run × (is_new frames run ≡ true) = list_any-from (is_new frames) (with_runs answers (runs_from low frames)) h in
       let p : (r.0.key ≡ true) × (not (stands r.0.first frames) ≡ true) = and_parts r.0.key (not (stands r.0.first frames)) r.2 in
       elim (with-from answers (runs_from low frames) r.0 r.1) [
         | inl new ↦ list_any-to (λ (run : RunTold). run.key) answers r.0 new p.0
@@ -221,7 +222,7 @@ added-completes low frames answers apart = same_test (completes_told frames (wit
   back : list_any (λ (run : RunTold). run.key) answers ≡ true → completes_told frames (with_runs answers (runs_from low frames)) ≡ true
   back h =
       let a : (run : RunTold) × Contains answers run × (run.key ≡ true) = list_any-from (λ (run : RunTold). run.key) answers h in
-      list_any-to is_new (with_runs answers (runs_from low frames)) a.0 (with-answers answers (runs_from low frames) a.0 a.1)
+      list_any-to (is_new frames) (with_runs answers (runs_from low frames)) a.0 (with-answers answers (runs_from low frames) a.0 a.1)
       (and_from a.0.key (not (stands a.0.first frames)) a.2 (not_from_false (stands a.0.first frames) (none-begins a.0.first frames (λ f d. apart a.0 a.1 f d))))
 
 -- no answer begins where a run stands, if none does among those that are left, and each begins among their numbers
@@ -232,7 +233,7 @@ apart-from low frames answers apart from a c f d same =
 
 -- answers that can be added begin where no run stands
 pub can-apart : (newest front last_pulled : Option ℕ) (answers frames : List RunTold) → CanAdd newest front last_pulled answers frames → Apart answers frames
-can-apart newest front last_pulled [] frames can a c = absurd (Contains-empty a c)
+can-apart newest front last_pulled [] frames can a c f d same = absurd (Contains-empty a c)
 can-apart newest front last_pulled (b ∷ more) frames can a c f d same = elim (Contains-either b more a c) [
   | inl here ↦
       let there : stands f.first frames ≡ true = begins-there frames f d in
