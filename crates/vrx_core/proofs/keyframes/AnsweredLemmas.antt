@@ -1,9 +1,11 @@
 -- Which of the numbers that were given up are answered: by the greatest first number of a keyframe that stands, and by
 -- that of the last keyframe pulled. Of the numbers given up the greatest decides.
-use Rattle.std.proofs.Common.{◌≡◌, ℕ, zero, suc, ◌-◌, ◌<◌, ◌≤◌, max, Bool, true, false, cond, not, ◌&&◌, ◌||◌, List, [], ◌∷◌, ◌++◌, map, length, slice_get, Contains, Option, Some, None, IfSome, IsSomeAnd, refl, sym, ◌∙◌, ap, subst, arith, inl, inr}
+use Rattle.std.proofs.Common.{◌≡◌, ℕ, ◌-◌, ◌<◌, ◌≤◌, max, Bool, true, false, cond, not, ◌&&◌, ◌||◌, List, [], ◌∷◌, ◌++◌, map, length, slice_get, Contains, Option, Some, None, IfSome, IsSomeAnd, refl, sym, ◌∙◌, ap, subst, arith, inl, inr}
 use Rattle.std.specs.Prelude.{nat_lt}
 use Rattle.std.specs.List.{AllByRecursion, filter, list_any}
+use Rattle.std.specs.List.Sorted.{IsStrictlySortedBy}
 use Rattle.std.specs.Option.{option_map_or}
+use Rattle.std.specs.Ordering.{nat_cmp}
 use Rattle.std.proofs.lemmas.Bool.{cases_lt, lt-ltb, ltb-true, or_cases}
 use Rattle.vrx_codec.specs.Meaning.{Meaning}
 use Rattle.vrx_num.specs.Extended.{greater}
@@ -19,8 +21,8 @@ use Rattle.vrx_core.specs.inside.Wants.{is_lost_open, is_open, last_of, later_of
 use Rattle.vrx_core.specs.declared.settings.Settings.{Settings}
 use Rattle.vrx_core.specs.declared.event.Event.{Event}
 use Rattle.vrx_core.proofs.machine.PulledLemmas.{pulled_rise}
-use Rattle.vrx_core.proofs.machine.TestLemmas.{same_test, same_tests}
-use Rattle.vrx_core.proofs.relation.ListLemmas.{Contains-either, Contains-empty, Contains-head, Contains-tail, Rises}
+use Rattle.vrx_core.proofs.machine.TestLemmas.{same_tests}
+use Rattle.vrx_core.proofs.relation.ListLemmas.{Contains-either, Contains-empty, Contains-head, Contains-tail, Rises, rises-from}
 
 -- no number, and then another
 pub later-none : (o : Option ℕ) → later_of o None ≡ o
@@ -119,6 +121,10 @@ greatest-at x (y ∷ ys) rises =
 pub greatest-last : (xs : List ℕ) → Rises (λ (n : ℕ). n) xs → greatest_of xs ≡ last_of xs
 greatest-last [] rises = refl
 greatest-last (x ∷ xs) rises = let same : length xs ≡ length (x ∷ xs) - 1 = omega arith in greatest-at x xs rises ∙ ap (slice_get (x ∷ xs)) same
+
+-- and so of numbers in strict order
+pub greatest-sorted : (xs : List ℕ) → IsStrictlySortedBy nat_cmp xs → greatest_of xs ≡ last_of xs
+greatest-sorted xs sorted = greatest-last xs (rises-from (λ (n : ℕ). n) xs sorted)
 
 -- a test that holds if the other does
 or-first : (a b : Bool) → (b ≡ true → a ≡ true) → (a || b) ≡ a

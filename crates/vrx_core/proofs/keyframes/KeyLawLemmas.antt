@@ -1,6 +1,5 @@
 -- Requests for a keyframe lie apart, and a number that is given up brings one.
-use Rattle.std.proofs.Common.{◌≡◌, ℕ, suc, ◌+◌, ◌<◌, ◌≤◌, ◌⊎◌, max, Bool, true, false, cond, not, ◌&&◌, ◌||◌, List, [], ◌∷◌, ◌++◌, Any, All, Contains, Option, Some, None, is_some, IsSomeAnd, Result, Ok, Err, refl, sym, ◌∙◌, ap, subst, append_assoc, arith, inl, inr}
-use Rattle.std.specs.Prelude.{nat_lt}
+use Rattle.std.proofs.Common.{◌≡◌, ℕ, suc, ◌+◌, ◌≤◌, ◌⊎◌, Bool, true, false, cond, not, ◌&&◌, List, [], ◌∷◌, ◌++◌, Any, Contains, Option, Some, None, is_some, IsSomeAnd, Result, Ok, Err, refl, sym, ◌∙◌, ap, subst, append_assoc, arith, inl, inr}
 use Rattle.std.specs.List.{list_any}
 use Rattle.std.proofs.lemmas.Bool.{and_parts, ltb-false, ltb-true, not-true, not_from_false, or_left}
 use Rattle.std.proofs.lemmas.List.Elements.{All-cons, All-nil}
@@ -12,7 +11,7 @@ use Rattle.vrx_window.specs.Window.{placed}
 use Rattle.vrx_frames.specs.Run.{Run}
 use Rattle.vrx_core.specs.machine.Asking.{IsOutstanding, KeyRequestsApartHold, LossesAskHold}
 use Rattle.vrx_core.specs.machine.GivenUp.{all_lost, lost_by_packet}
-use Rattle.vrx_core.specs.machine.KeyRequest.{completes_key, is_answered, is_needed, open_request, still_open, with_key_request}
+use Rattle.vrx_core.specs.machine.KeyRequest.{is_answered, is_needed, open_request, still_open, with_key_request}
 use Rattle.vrx_core.specs.machine.Machine.{Snapshot, after_datagram, after_pull, after_tick, latest, next_run, settled, snapshots, with_requests}
 use Rattle.vrx_core.specs.machine.Snapshot.{moved}
 use Rattle.vrx_core.specs.machine.Verdict.{verdict}

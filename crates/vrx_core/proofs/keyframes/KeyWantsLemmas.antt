@@ -61,41 +61,29 @@ same-after now wants last last' asked a l = ap (λ b. cond b (Some now) last) a 
 
 -- A tick.
 module _ (settings : Settings) (past : List Snapshot) (moment : ℕ) (wanted : Wanted) (falls : Falls (latest past).pulled) (wants : WantsIn wanted past) where
-  -- the keyframe that begins last, of those that stand
-  abbrev key : Option ℕ
-  key = greatest_of (key_numbers (map told_of (latest past).standing))
-
-  -- the moment of the tick
-  abbrev at : ℕ
-  at = max (latest past).now moment
-
-  -- what the tick leaves
-  abbrev then : Snapshot
-  then = after_tick settings past moment
-
   -- there is need of a keyframe if some number isn't answered, or none ever completed
-  needs-is : lost_ticked at settings.interval wanted ≡ greatest_of (all_lost (then ∷ past))
-      → needs_key at settings.interval (is_some (latest past).window.newest) key wanted
-      ≡ (list_any (λ n. not (is_answered (latest past) n)) (all_lost (then ∷ past)) || (is_some (latest past).window.newest && not (list_any (λ (s : Snapshot). s.key_completed) past)))
+  needs-is : lost_ticked (max (latest past).now moment) settings.interval wanted ≡ greatest_of (all_lost (after_tick settings past moment ∷ past))
+      → needs_key (max (latest past).now moment) settings.interval (is_some (latest past).window.newest) (greatest_of (key_numbers (map told_of (latest past).standing))) wanted
+      ≡ (list_any (λ n. not (is_answered (latest past) n)) (all_lost (after_tick settings past moment ∷ past)) || (is_some (latest past).window.newest && not (list_any (λ (s : Snapshot). s.key_completed) past)))
   needs-is lost =
-      ap (λ o. is_lost_open key o (lost_ticked at settings.interval wanted) || (is_some (latest past).window.newest && not wanted.keyed)) wants.key_pulled
-      ∙ ap (λ o. is_lost_open key (last_key (latest past).pulled) o || (is_some (latest past).window.newest && not wanted.keyed)) lost
-      ∙ ap (λ b. b || (is_some (latest past).window.newest && not wanted.keyed)) (sym (lost-open (latest past) falls (all_lost (then ∷ past))))
-      ∙ ap (λ b. list_any (λ n. not (is_answered (latest past) n)) (all_lost (then ∷ past)) || (is_some (latest past).window.newest && not b)) wants.keyed
+      ap (λ o. is_lost_open (greatest_of (key_numbers (map told_of (latest past).standing))) o (lost_ticked (max (latest past).now moment) settings.interval wanted) || (is_some (latest past).window.newest && not wanted.keyed)) wants.key_pulled
+      ∙ ap (λ o. is_lost_open (greatest_of (key_numbers (map told_of (latest past).standing))) (last_key (latest past).pulled) o || (is_some (latest past).window.newest && not wanted.keyed)) lost
+      ∙ ap (λ b. b || (is_some (latest past).window.newest && not wanted.keyed)) (sym (lost-open (latest past) falls (all_lost (after_tick settings past moment ∷ past))))
+      ∙ ap (λ b. list_any (λ n. not (is_answered (latest past) n)) (all_lost (after_tick settings past moment ∷ past)) || (is_some (latest past).window.newest && not b)) wants.keyed
 
   -- a tick asks for a keyframe
-  pub ticked-asks : lost_ticked at settings.interval wanted ≡ greatest_of (all_lost (after_tick settings past moment ∷ past))
-      → asks_key at (needs_key at settings.interval (is_some (latest past).window.newest) key wanted) wanted.key_asked ≡ (after_tick settings past moment).key_asked
+  pub ticked-asks : lost_ticked (max (latest past).now moment) settings.interval wanted ≡ greatest_of (all_lost (after_tick settings past moment ∷ past))
+      → asks_key (max (latest past).now moment) (needs_key (max (latest past).now moment) settings.interval (is_some (latest past).window.newest) (greatest_of (key_numbers (map told_of (latest past).standing))) wanted) wanted.key_asked ≡ (after_tick settings past moment).key_asked
   ticked-asks lost =
-      same-asks at (needs_key at settings.interval (is_some (latest past).window.newest) key wanted)
-      (list_any (λ n. not (is_answered (latest past) n)) (all_lost (then ∷ past)) || (is_some (latest past).window.newest && not (list_any (λ (s : Snapshot). s.key_completed) past)))
+      same-asks (max (latest past).now moment) (needs_key (max (latest past).now moment) settings.interval (is_some (latest past).window.newest) (greatest_of (key_numbers (map told_of (latest past).standing))) wanted)
+      (list_any (λ n. not (is_answered (latest past) n)) (all_lost (after_tick settings past moment ∷ past)) || (is_some (latest past).window.newest && not (list_any (λ (s : Snapshot). s.key_completed) past)))
       wanted.key_asked (open_request past) (needs-is lost) wants.key_asked
 
   -- and this request is open then
-  pub ticked-key_asked : lost_ticked at settings.interval wanted ≡ greatest_of (all_lost (after_tick settings past moment ∷ past))
-      → key_after at (needs_key at settings.interval (is_some (latest past).window.newest) key wanted) wanted.key_asked ≡ open_request (after_tick settings past moment ∷ past)
+  pub ticked-key_asked : lost_ticked (max (latest past).now moment) settings.interval wanted ≡ greatest_of (all_lost (after_tick settings past moment ∷ past))
+      → key_after (max (latest past).now moment) (needs_key (max (latest past).now moment) settings.interval (is_some (latest past).window.newest) (greatest_of (key_numbers (map told_of (latest past).standing))) wanted) wanted.key_asked ≡ open_request (after_tick settings past moment ∷ past)
   ticked-key_asked lost =
-      same-after at (needs_key at settings.interval (is_some (latest past).window.newest) key wanted) wanted.key_asked (open_request past) then.key_asked (ticked-asks lost) wants.key_asked
+      same-after (max (latest past).now moment) (needs_key (max (latest past).now moment) settings.interval (is_some (latest past).window.newest) (greatest_of (key_numbers (map told_of (latest past).standing))) wanted) wanted.key_asked (open_request past) (after_tick settings past moment).key_asked (ticked-asks lost) wants.key_asked
 
   -- the rest is left
   pub ticked-key_pulled : wanted.key_pulled ≡ last_key (latest (after_tick settings past moment ∷ past)).pulled
@@ -135,16 +123,12 @@ module _ (past : List Snapshot) (s : Snapshot) (wanted : Wanted) (falls : Falls 
   requests-open lost is =
       same-after s.now (is_lost_open last wanted.key_pulled lost) (open_after completed wanted.key_asked) (open_after completed (open_request past)) (with_requests past s).key_asked (requests-ask lost is) (ap (open_after completed) asked)
 
+-- what a datagram leaves that is taken, before its requests
+abbrev placed_after : Meaning → List Snapshot → (moment n : ℕ) → Content → Snapshot
+placed_after codec past moment n content = settled codec past (record (moved (latest past) moment) { window = placed n content (latest past).window })
+
 -- A datagram that is taken.
 module _ (codec : Meaning) (past : List Snapshot) (moment n : ℕ) (content : Content) (wanted : Wanted) where
-  -- what it leaves
-  abbrev after : Snapshot
-  after = after_datagram codec past moment (Ok (n, content))
-
-  -- the same, before its requests
-  abbrev bare : Snapshot
-  bare = settled codec past (record (moved (latest past) moment) { window = placed n content (latest past).window })
-
   -- the frames pulled are left
   pub taken-key_pulled : wanted.key_pulled ≡ last_key (latest past).pulled → wanted.key_pulled ≡ last_key (latest (after_datagram codec past moment (Ok (n, content)) ∷ past)).pulled
   taken-key_pulled is = is
@@ -153,13 +137,13 @@ module _ (codec : Meaning) (past : List Snapshot) (moment n : ℕ) (content : Co
   pub taken-keyed : wanted.keyed ≡ list_any (λ (s : Snapshot). s.key_completed) past
       → (wanted.keyed || completes_key (latest past).standing (after_datagram codec past moment (Ok (n, content))).standing) ≡ list_any (λ (s : Snapshot). s.key_completed) (after_datagram codec past moment (Ok (n, content)) ∷ past)
   taken-keyed is =
-      or-swap wanted.keyed (completes_key (latest past).standing after.standing) ∙ ap (λ b. completes_key (latest past).standing after.standing || b) is
+      or-swap wanted.keyed (completes_key (latest past).standing (after_datagram codec past moment (Ok (n, content))).standing) ∙ ap (λ b. completes_key (latest past).standing (after_datagram codec past moment (Ok (n, content))).standing || b) is
 
-  module _ (falls : Falls (latest past).pulled) (pulled : wanted.key_pulled ≡ last_key (latest past).pulled) (asked : wanted.key_asked ≡ open_request past) (lost : Option ℕ) (lost_is : lost ≡ greatest_of after.lost) where
+  module _ (falls : Falls (latest past).pulled) (pulled : wanted.key_pulled ≡ last_key (latest past).pulled) (asked : wanted.key_asked ≡ open_request past) (lost : Option ℕ) (lost_is : lost ≡ greatest_of (after_datagram codec past moment (Ok (n, content))).lost) where
     -- it asks for a keyframe
-    pub taken-asks : asks_key after.now (is_lost_open (greatest_of (key_numbers (map told_of after.standing))) wanted.key_pulled lost) (open_after (completes_key (latest past).standing after.standing) wanted.key_asked) ≡ after.key_asked
-    taken-asks = requests-ask past bare wanted falls pulled asked lost lost_is
+    pub taken-asks : asks_key (after_datagram codec past moment (Ok (n, content))).now (is_lost_open (greatest_of (key_numbers (map told_of (after_datagram codec past moment (Ok (n, content))).standing))) wanted.key_pulled lost) (open_after (completes_key (latest past).standing (after_datagram codec past moment (Ok (n, content))).standing) wanted.key_asked) ≡ (after_datagram codec past moment (Ok (n, content))).key_asked
+    taken-asks = requests-ask past (placed_after codec past moment n content) wanted falls pulled asked lost lost_is
 
     -- and this request is open then
-    pub taken-key_asked : key_after after.now (is_lost_open (greatest_of (key_numbers (map told_of after.standing))) wanted.key_pulled lost) (open_after (completes_key (latest past).standing after.standing) wanted.key_asked) ≡ open_request (after ∷ past)
-    taken-key_asked = requests-open past bare wanted falls pulled asked lost lost_is
+    pub taken-key_asked : key_after (after_datagram codec past moment (Ok (n, content))).now (is_lost_open (greatest_of (key_numbers (map told_of (after_datagram codec past moment (Ok (n, content))).standing))) wanted.key_pulled lost) (open_after (completes_key (latest past).standing (after_datagram codec past moment (Ok (n, content))).standing) wanted.key_asked) ≡ open_request (after_datagram codec past moment (Ok (n, content)) ∷ past)
+    taken-key_asked = requests-open past (placed_after codec past moment n content) wanted falls pulled asked lost lost_is
