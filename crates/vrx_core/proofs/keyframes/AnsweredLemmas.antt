@@ -2,19 +2,22 @@
 -- that of the last keyframe pulled. Of the numbers given up the greatest decides.
 use Rattle.std.proofs.Common.{◌≡◌, ℕ, ◌-◌, ◌<◌, ◌≤◌, max, Bool, true, false, cond, not, ◌&&◌, ◌||◌, List, [], ◌∷◌, ◌++◌, map, length, slice_get, Contains, Option, Some, None, IfSome, IsSomeAnd, refl, sym, ◌∙◌, ap, subst, arith, inl, inr}
 use Rattle.std.specs.Prelude.{nat_lt}
-use Rattle.std.specs.List.{AllByRecursion, filter, list_any}
+use Rattle.std.specs.List.{AllByRecursion, filter, list_all, list_any}
 use Rattle.std.specs.List.Sorted.{IsStrictlySortedBy}
 use Rattle.std.specs.Option.{option_map_or}
 use Rattle.std.specs.Ordering.{nat_cmp}
-use Rattle.std.proofs.lemmas.Bool.{cases_lt, lt-ltb, ltb-true, or_cases}
+use Rattle.std.proofs.lemmas.Bool.{and_parts, cases_lt, lt-ltb, ltb-true, or_cases}
 use Rattle.vrx_codec.specs.Meaning.{Meaning}
 use Rattle.vrx_num.specs.Extended.{greater}
+use Rattle.vrx_asks.specs.Asks.{given_up_numbers, is_given_up}
+use Rattle.vrx_asks.specs.IsAsks.{rises}
+use Rattle.vrx_asks.specs.declared.ask.Ask.{Ask}
 use Rattle.vrx_frames.specs.IsRun.{RunsAre}
 use Rattle.vrx_frames.specs.Run.{Run, told_of}
 use Rattle.vrx_core.specs.machine.KeyRequest.{has_key_beyond, is_answered}
 use Rattle.vrx_core.specs.machine.Machine.{Snapshot, last_pulled, latest, snapshots}
 use Rattle.vrx_core.specs.machine.PulledRise.{Rise}
-use Rattle.vrx_core.specs.relation.Order.{greatest_of}
+use Rattle.vrx_core.specs.relation.Order.{greatest_of, rises_by}
 use Rattle.vrx_core.specs.relation.StandsFor.{last_key}
 use Rattle.vrx_core.specs.inside.Kept.{key_numbers}
 use Rattle.vrx_core.specs.inside.Wants.{is_lost_open, is_open, last_of, later_of}
@@ -22,7 +25,7 @@ use Rattle.vrx_core.specs.declared.settings.Settings.{Settings}
 use Rattle.vrx_core.specs.declared.event.Event.{Event}
 use Rattle.vrx_core.proofs.machine.PulledLemmas.{pulled_rise}
 use Rattle.vrx_core.proofs.machine.TestLemmas.{same_tests}
-use Rattle.vrx_core.proofs.relation.ListLemmas.{Contains-either, Contains-empty, Contains-head, Contains-tail, Rises, rises-from}
+use Rattle.vrx_core.proofs.relation.ListLemmas.{Contains-either, Contains-empty, Contains-head, Contains-tail, Rises, rises-filter, rises-from, rises-map}
 
 -- no number, and then another
 pub later-none : (o : Option ℕ) → later_of o None ≡ o
@@ -121,6 +124,33 @@ greatest-at x (y ∷ ys) rises =
 pub greatest-last : (xs : List ℕ) → Rises (λ (n : ℕ). n) xs → greatest_of xs ≡ last_of xs
 greatest-last [] rises = refl
 greatest-last (x ∷ xs) rises = let same : length xs ≡ length (x ∷ xs) - 1 = omega arith in greatest-at x xs rises ∙ ap (slice_get (x ∷ xs)) same
+
+-- what a test says of all
+all-above : {X : Type 0} (number : X → ℕ) (n : ℕ) (xs : List X) → list_all (λ x. nat_lt n (number x)) xs ≡ true → AllByRecursion (λ x. n < number x) xs
+all-above number n [] h = tt
+all-above number n (x ∷ xs) h =
+    let p : (nat_lt n (number x) ≡ true) × (list_all (λ y. nat_lt n (number y)) xs ≡ true) = and_parts (nat_lt n (number x)) (list_all (λ y. nat_lt n (number y)) xs) h in
+    (ltb-true n (number x) p.0, all-above number n xs p.1)
+
+-- a list rises if the test says so
+pub rises-by : {X : Type 0} (number : X → ℕ) (xs : List X) → rises_by number xs ≡ true → Rises number xs
+rises-by number [] h = tt
+rises-by number (x ∷ xs) h =
+    let p : (list_all (λ y. nat_lt (number x) (number y)) xs ≡ true) × (rises_by number xs ≡ true) = and_parts (list_all (λ y. nat_lt (number x) (number y)) xs) (rises_by number xs) h in
+    (all-above number (number x) xs p.0, rises-by number xs p.1)
+
+-- asks too
+pub asks-rise : (asks : List Ask) → rises asks ≡ true → Rises (λ (ask : Ask). ask.number) asks
+asks-rise [] h = tt
+asks-rise (ask ∷ asks) h =
+    let p : (list_all (λ (other : Ask). nat_lt ask.number other.number) asks ≡ true) × (rises asks ≡ true) = and_parts (list_all (λ (other : Ask). nat_lt ask.number other.number) asks) (rises asks) h in
+    (all-above (λ (other : Ask). other.number) ask.number asks p.0, asks-rise asks p.1)
+
+-- so the last of the numbers that a tick gives up is the greatest
+pub given-up-greatest : (now interval : ℕ) (asks : List Ask) → rises asks ≡ true → greatest_of (given_up_numbers now interval asks) ≡ last_of (given_up_numbers now interval asks)
+given-up-greatest now interval asks h =
+    greatest-last (given_up_numbers now interval asks)
+    (rises-map (λ (ask : Ask). ask.number) (λ (n : ℕ). n) (λ (ask : Ask). ask.number) (λ ask. refl) (filter (is_given_up now interval) asks) (rises-filter (λ (ask : Ask). ask.number) (is_given_up now interval) asks (asks-rise asks h)))
 
 -- and so of numbers in strict order
 pub greatest-sorted : (xs : List ℕ) → IsStrictlySortedBy nat_cmp xs → greatest_of xs ≡ last_of xs
@@ -232,12 +262,16 @@ not-either : (a b : Bool) → not (a || b) ≡ (not a && not b)
 not-either true b = refl
 not-either false b = refl
 
+-- the first number of the keyframe that begins last, of those that stand
+abbrev pub key_standing : Snapshot → Option ℕ
+key_standing s = greatest_of (key_numbers (map told_of s.standing))
+
 -- a number isn't answered
-pub not-answered : (s : Snapshot) → Falls s.pulled → (n : ℕ) → not (is_answered s n) ≡ is_open (greatest_of (key_numbers (map told_of s.standing))) (last_key s.pulled) n
+pub not-answered : (s : Snapshot) → Falls s.pulled → (n : ℕ) → not (is_answered s n) ≡ is_open (key_standing s) (last_key s.pulled) n
 not-answered s falls n =
     ap (λ b. not (b || has_key_beyond s.pulled n)) (standing-beyond s.standing n)
-    ∙ ap (λ b. not (option_map_or (λ key. nat_lt n key) (greatest_of (key_numbers (map told_of s.standing))) false || b)) (pulled-beyond s.pulled n falls)
-    ∙ not-either (option_map_or (λ key. nat_lt n key) (greatest_of (key_numbers (map told_of s.standing))) false) (option_map_or (λ key. nat_lt n key) (last_key s.pulled) false)
+    ∙ ap (λ b. not (option_map_or (λ key. nat_lt n key) (key_standing s) false || b)) (pulled-beyond s.pulled n falls)
+    ∙ not-either (option_map_or (λ key. nat_lt n key) (key_standing s) false) (option_map_or (λ key. nat_lt n key) (last_key s.pulled) false)
 
 -- a number below one that a keyframe answers is answered by it
 key-down : (o : Option ℕ) (n m : ℕ) → option_map_or (λ key. nat_lt m key) o false ≡ true → n ≤ m → option_map_or (λ key. nat_lt n key) o false ≡ true
@@ -261,15 +295,15 @@ open-up standing pulled n m h upto =
 -- a number below one that is answered is answered
 pub answered-down : (s : Snapshot) → Falls s.pulled → (n m : ℕ) → is_answered s m ≡ true → n ≤ m → is_answered s n ≡ true
 answered-down s falls n m h upto = elim (or_cases (has_key_beyond s.standing m) (has_key_beyond s.pulled m) h) [
-  | inl here ↦ ap (λ b. b || has_key_beyond s.pulled n) (standing-beyond s.standing n ∙ key-down (greatest_of (key_numbers (map told_of s.standing))) n m (sym (standing-beyond s.standing m) ∙ here) upto)
+  | inl here ↦ ap (λ b. b || has_key_beyond s.pulled n) (standing-beyond s.standing n ∙ key-down (key_standing s) n m (sym (standing-beyond s.standing m) ∙ here) upto)
   | inr here ↦ or-second (has_key_beyond s.standing n) (has_key_beyond s.pulled n) (λ g. below here) ∙ below here
 ] where
   below : has_key_beyond s.pulled m ≡ true → has_key_beyond s.pulled n ≡ true
   below here = pulled-beyond s.pulled n falls ∙ key-down (last_key s.pulled) n m (sym (pulled-beyond s.pulled m falls) ∙ here) upto
 
 -- some of these numbers isn't answered, if the greatest isn't
-pub lost-open : (s : Snapshot) → Falls s.pulled → (ns : List ℕ) → list_any (λ n. not (is_answered s n)) ns ≡ is_lost_open (greatest_of (key_numbers (map told_of s.standing))) (last_key s.pulled) (greatest_of ns)
+pub lost-open : (s : Snapshot) → Falls s.pulled → (ns : List ℕ) → list_any (λ n. not (is_answered s n)) ns ≡ is_lost_open (key_standing s) (last_key s.pulled) (greatest_of ns)
 lost-open s falls ns =
-    let key : Option ℕ = greatest_of (key_numbers (map told_of s.standing)) in
+    let key : Option ℕ = key_standing s in
     ap (λ (test : ℕ → Bool). list_any test ns) (same_tests (λ n. not (is_answered s n)) (is_open key (last_key s.pulled)) (not-answered s falls))
     ∙ any-greatest (is_open key (last_key s.pulled)) (open-up key (last_key s.pulled)) ns

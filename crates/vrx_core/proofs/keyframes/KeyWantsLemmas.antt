@@ -1,21 +1,20 @@
 -- What an engine keeps of the requests for a keyframe, event by event: it is what the machine's past gives.
-use Rattle.std.proofs.Common.{◌≡◌, ℕ, max, Bool, true, false, cond, not, ◌&&◌, ◌||◌, List, [], ◌∷◌, map, Option, Some, is_some, Ok, refl, sym, ◌∙◌, ap}
+use Rattle.std.proofs.Common.{◌≡◌, ℕ, max, Bool, true, false, cond, not, ◌&&◌, ◌||◌, List, [], ◌∷◌, Option, Some, is_some, Ok, refl, sym, ◌∙◌, ap}
 use Rattle.std.specs.List.{list_any}
 use Rattle.vrx_asks.specs.KeyAsk.{is_outstanding}
 use Rattle.vrx_codec.specs.Meaning.{Meaning}
 use Rattle.vrx_window.specs.Content.{Content}
 use Rattle.vrx_window.specs.Window.{placed}
-use Rattle.vrx_frames.specs.Run.{Run, told_of}
+use Rattle.vrx_frames.specs.Run.{Run}
 use Rattle.vrx_core.specs.machine.GivenUp.{all_lost, lost_by_packet}
 use Rattle.vrx_core.specs.machine.KeyRequest.{completes_key, is_answered, open_request}
 use Rattle.vrx_core.specs.machine.Machine.{Snapshot, after_datagram, after_pull, after_tick, latest, opening, settled, with_requests}
 use Rattle.vrx_core.specs.machine.Snapshot.{moved}
 use Rattle.vrx_core.specs.relation.Order.{greatest_of}
 use Rattle.vrx_core.specs.relation.StandsFor.{Wanted, WantsIn, last_key}
-use Rattle.vrx_core.specs.inside.Kept.{key_numbers}
 use Rattle.vrx_core.specs.inside.Wants.{asks_key, is_lost_open, key_after, lost_ticked, needs_key, nothing_wanted, open_after}
 use Rattle.vrx_core.specs.declared.settings.Settings.{Settings}
-use Rattle.vrx_core.proofs.keyframes.AnsweredLemmas.{Falls, lost-open}
+use Rattle.vrx_core.proofs.keyframes.AnsweredLemmas.{Falls, key_standing, lost-open}
 
 -- Before the first event.
 pub opening-key_pulled : nothing_wanted.key_pulled ≡ last_key (latest (opening ∷ [])).pulled
@@ -63,27 +62,31 @@ same-after now wants last last' asked a l = ap (λ b. cond b (Some now) last) a 
 module _ (settings : Settings) (past : List Snapshot) (moment : ℕ) (wanted : Wanted) (falls : Falls (latest past).pulled) (wants : WantsIn wanted past) where
   -- there is need of a keyframe if some number isn't answered, or none ever completed
   needs-is : lost_ticked (max (latest past).now moment) settings.interval wanted ≡ greatest_of (all_lost (after_tick settings past moment ∷ past))
-      → needs_key (max (latest past).now moment) settings.interval (is_some (latest past).window.newest) (greatest_of (key_numbers (map told_of (latest past).standing))) wanted
+      → needs_key (max (latest past).now moment) settings.interval (is_some (latest past).window.newest) (key_standing (latest past)) wanted
       ≡ (list_any (λ n. not (is_answered (latest past) n)) (all_lost (after_tick settings past moment ∷ past)) || (is_some (latest past).window.newest && not (list_any (λ (s : Snapshot). s.key_completed) past)))
   needs-is lost =
-      ap (λ o. is_lost_open (greatest_of (key_numbers (map told_of (latest past).standing))) o (lost_ticked (max (latest past).now moment) settings.interval wanted) || (is_some (latest past).window.newest && not wanted.keyed)) wants.key_pulled
-      ∙ ap (λ o. is_lost_open (greatest_of (key_numbers (map told_of (latest past).standing))) (last_key (latest past).pulled) o || (is_some (latest past).window.newest && not wanted.keyed)) lost
+      ap (λ o. is_lost_open (key_standing (latest past)) o (lost_ticked (max (latest past).now moment) settings.interval wanted) || (is_some (latest past).window.newest && not wanted.keyed)) wants.key_pulled
+      ∙ ap (λ o. is_lost_open (key_standing (latest past)) (last_key (latest past).pulled) o || (is_some (latest past).window.newest && not wanted.keyed)) lost
       ∙ ap (λ b. b || (is_some (latest past).window.newest && not wanted.keyed)) (sym (lost-open (latest past) falls (all_lost (after_tick settings past moment ∷ past))))
       ∙ ap (λ b. list_any (λ n. not (is_answered (latest past) n)) (all_lost (after_tick settings past moment ∷ past)) || (is_some (latest past).window.newest && not b)) wants.keyed
 
   -- a tick asks for a keyframe
-  pub ticked-asks : lost_ticked (max (latest past).now moment) settings.interval wanted ≡ greatest_of (all_lost (after_tick settings past moment ∷ past))
-      → asks_key (max (latest past).now moment) (needs_key (max (latest past).now moment) settings.interval (is_some (latest past).window.newest) (greatest_of (key_numbers (map told_of (latest past).standing))) wanted) wanted.key_asked ≡ (after_tick settings past moment).key_asked
+  pub ticked-asks : let now : ℕ = max (latest past).now moment in
+      lost_ticked now settings.interval wanted ≡ greatest_of (all_lost (after_tick settings past moment ∷ past))
+      → asks_key now (needs_key now settings.interval (is_some (latest past).window.newest) (key_standing (latest past)) wanted) wanted.key_asked
+      ≡ (after_tick settings past moment).key_asked
   ticked-asks lost =
-      same-asks (max (latest past).now moment) (needs_key (max (latest past).now moment) settings.interval (is_some (latest past).window.newest) (greatest_of (key_numbers (map told_of (latest past).standing))) wanted)
+      same-asks (max (latest past).now moment) (needs_key (max (latest past).now moment) settings.interval (is_some (latest past).window.newest) (key_standing (latest past)) wanted)
       (list_any (λ n. not (is_answered (latest past) n)) (all_lost (after_tick settings past moment ∷ past)) || (is_some (latest past).window.newest && not (list_any (λ (s : Snapshot). s.key_completed) past)))
       wanted.key_asked (open_request past) (needs-is lost) wants.key_asked
 
   -- and this request is open then
-  pub ticked-key_asked : lost_ticked (max (latest past).now moment) settings.interval wanted ≡ greatest_of (all_lost (after_tick settings past moment ∷ past))
-      → key_after (max (latest past).now moment) (needs_key (max (latest past).now moment) settings.interval (is_some (latest past).window.newest) (greatest_of (key_numbers (map told_of (latest past).standing))) wanted) wanted.key_asked ≡ open_request (after_tick settings past moment ∷ past)
+  pub ticked-key_asked : let now : ℕ = max (latest past).now moment in
+      lost_ticked now settings.interval wanted ≡ greatest_of (all_lost (after_tick settings past moment ∷ past))
+      → key_after now (needs_key now settings.interval (is_some (latest past).window.newest) (key_standing (latest past)) wanted) wanted.key_asked
+      ≡ open_request (after_tick settings past moment ∷ past)
   ticked-key_asked lost =
-      same-after (max (latest past).now moment) (needs_key (max (latest past).now moment) settings.interval (is_some (latest past).window.newest) (greatest_of (key_numbers (map told_of (latest past).standing))) wanted) wanted.key_asked (open_request past) (after_tick settings past moment).key_asked (ticked-asks lost) wants.key_asked
+      same-after (max (latest past).now moment) (needs_key (max (latest past).now moment) settings.interval (is_some (latest past).window.newest) (key_standing (latest past)) wanted) wanted.key_asked (open_request past) (after_tick settings past moment).key_asked (ticked-asks lost) wants.key_asked
 
   -- the rest is left
   pub ticked-key_pulled : wanted.key_pulled ≡ last_key (latest (after_tick settings past moment ∷ past)).pulled
@@ -107,7 +110,7 @@ module _ (past : List Snapshot) (s : Snapshot) (wanted : Wanted) (falls : Falls 
 
   -- the keyframe that begins last, of those that stand then
   abbrev last : Option ℕ
-  last = greatest_of (key_numbers (map told_of s.standing))
+  last = key_standing s
 
   -- it asks for a keyframe
   requests-ask : (lost : Option ℕ) → lost ≡ greatest_of (lost_by_packet past s)
@@ -141,9 +144,11 @@ module _ (codec : Meaning) (past : List Snapshot) (moment n : ℕ) (content : Co
 
   module _ (falls : Falls (latest past).pulled) (pulled : wanted.key_pulled ≡ last_key (latest past).pulled) (asked : wanted.key_asked ≡ open_request past) (lost : Option ℕ) (lost_is : lost ≡ greatest_of (after_datagram codec past moment (Ok (n, content))).lost) where
     -- it asks for a keyframe
-    pub taken-asks : asks_key (after_datagram codec past moment (Ok (n, content))).now (is_lost_open (greatest_of (key_numbers (map told_of (after_datagram codec past moment (Ok (n, content))).standing))) wanted.key_pulled lost) (open_after (completes_key (latest past).standing (after_datagram codec past moment (Ok (n, content))).standing) wanted.key_asked) ≡ (after_datagram codec past moment (Ok (n, content))).key_asked
+    pub taken-asks : let s : Snapshot = after_datagram codec past moment (Ok (n, content)) in
+        asks_key s.now (is_lost_open (key_standing s) wanted.key_pulled lost) (open_after (completes_key (latest past).standing s.standing) wanted.key_asked) ≡ s.key_asked
     taken-asks = requests-ask past (placed_after codec past moment n content) wanted falls pulled asked lost lost_is
 
     -- and this request is open then
-    pub taken-key_asked : key_after (after_datagram codec past moment (Ok (n, content))).now (is_lost_open (greatest_of (key_numbers (map told_of (after_datagram codec past moment (Ok (n, content))).standing))) wanted.key_pulled lost) (open_after (completes_key (latest past).standing (after_datagram codec past moment (Ok (n, content))).standing) wanted.key_asked) ≡ open_request (after_datagram codec past moment (Ok (n, content)) ∷ past)
+    pub taken-key_asked : let s : Snapshot = after_datagram codec past moment (Ok (n, content)) in
+        key_after s.now (is_lost_open (key_standing s) wanted.key_pulled lost) (open_after (completes_key (latest past).standing s.standing) wanted.key_asked) ≡ open_request (s ∷ past)
     taken-key_asked = requests-open past (placed_after codec past moment n content) wanted falls pulled asked lost lost_is
