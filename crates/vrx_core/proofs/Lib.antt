@@ -3,3 +3,4 @@ mod buffer
 mod relation
 mod step
 mod honest
+mod keyframes
