@@ -5,3 +5,5 @@ pub mod RunLemmas
 pub mod FieldLemmas
 pub mod TakeLemmas
 pub mod LostLemmas
+pub mod NoticeLemmas
+pub mod GapLemmas

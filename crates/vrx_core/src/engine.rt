@@ -1,6 +1,6 @@
 //! The engine: three events and what each answers.
 
-ghost use Rattle.std.specs.Prelude.{◌≡◌, ◌⊎◌, ◌+◌, ◌<◌, ◌≤◌, ◌↔◌, max, List, [], ◌∷◌, Some, None, OnOk, OnErr, IfOk, IfErr, IsOk, IsErr, IsErrOf};
+ghost use Rattle.std.specs.Prelude.{◌≡◌, ◌⊎◌, ◌+◌, ◌^◌, ◌<◌, ◌≤◌, ◌↔◌, max, List, [], ◌∷◌, Some, None, OnOk, OnErr, IfOk, IfSome, IfErr, IsOk, IsErr, IsErrOf};
 ghost use Rattle.vrx_window.specs.Content.{contents_of};
 ghost use Rattle.vrx_frames.specs.Run.{Run as RunOf};
 ghost use Rattle.vrx_core.specs.machine.Machine.{ToDatagram, ToTick, ToPull, IfFrame, frame_of as frame_of_run, last_pulled as last_pulled_of, latest, nack_for, pli_for, reply, snapshots, what_of};
@@ -9,7 +9,9 @@ ghost use Rattle.vrx_core.specs.machine.Verdict.{verdict as verdict_of};
 ghost use Rattle.vrx_core.specs.machine.SettingsFault.{IsFault, fault_of};
 ghost use Rattle.vrx_core.specs.machine.Reasons.{MeansAnswer};
 ghost use Rattle.vrx_core.specs.relation.StandsFor.{StandsFor};
-ghost use Rattle.vrx_core.specs.inside.Wants.{AreNear};
+ghost use Rattle.vrx_core.specs.relation.Order.{greatest_of};
+ghost use Rattle.vrx_core.specs.inside.Kept.{key_numbers};
+ghost use Rattle.vrx_core.specs.inside.Wants.{AreBelow, AreNear, gap_of, key_taken, wanted_taken};
 ghost use Rattle.vrx_core.specs.declared.event.Event.{Event};
 ghost use Rattle.vrx_core.specs.declared.reply.What.{What};
 
@@ -77,6 +79,29 @@ fn pli_if(settings: &Settings, key: bool) -> Option<[u8; 12]>
         Some(pli(settings.from_ssrc, settings.media_ssrc))
     } else {
         None
+    }
+}
+
+/// Asks for what is missing, and for a keyframe, once a packet was taken.
+fn ask<C: Codec>(
+    assembler: &Assembler<C>,
+    requests: &mut Requests,
+    arrival: &Arrival,
+) -> Feedback
+    requires below { AreBelow arrival.now.newest requests.old.asks }
+    requires short { IfSome arrival.now.newest (λ m. m < 2 ^ 62) }
+    ensures wanted { requests.new ≡ wanted_taken assembler.now.clock arrival.now assembler.now.front (greatest_of (key_numbers assembler.now.frames)) requests.old }
+    ensures nack { result.nack ≡ nack_for assembler.now.settings (gap_of arrival.now.newest arrival.now.number) }
+    ensures pli { result.pli ≡ pli_for assembler.now.settings (key_taken assembler.now.clock arrival.now (greatest_of (key_numbers assembler.now.frames)) requests.old) }
+{
+    let now = assembler.now();
+    let front = assembler.front();
+    let key = assembler.greatest_key();
+    let asked = requests.taken(now, arrival, front, key);
+    let settings = assembler.settings();
+    Feedback {
+        nack: nack_unless_none(settings, asked.numbers.as_slice()),
+        pli: pli_if(settings, asked.key),
     }
 }
 
@@ -168,7 +193,7 @@ impl<C: Codec> Engine<C> {
         runs_rise();
         let outcome = self.assembler.handle(moment, bytes)?;
         let feedback = match &outcome.arrival {
-            Some(arrival) => self.ask(arrival),
+            Some(arrival) => ask(&self.assembler, &mut self.requests, arrival),
             None => NO_FEEDBACK,
         };
         Ok(Handled {
@@ -240,19 +265,6 @@ impl<C: Codec> Engine<C> {
                 Ok(Pulled::Frame(frame))
             }
             None => Ok(Pulled::NotReady),
-        }
-    }
-
-    /// Asks for what is missing, and for a keyframe, once a packet was taken.
-    fn ask(&mut self, arrival: &Arrival) -> Feedback {
-        let now = self.assembler.now();
-        let front = self.assembler.front();
-        let key = self.assembler.greatest_key();
-        let asked = self.requests.taken(now, arrival, front, key);
-        let settings = self.assembler.settings();
-        Feedback {
-            nack: nack_unless_none(settings, asked.numbers.as_slice()),
-            pli: pli_if(settings, asked.key),
         }
     }
 }

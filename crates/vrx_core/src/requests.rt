@@ -3,7 +3,7 @@
 ghost use Rattle.std.specs.Prelude.{◌≡◌, ◌+◌, ◌-◌, ◌<◌, ◌≤◌, ◌^◌, ◌++◌, nat_lt, true, false, [], None, IfOk, IfSome};
 ghost use Rattle.std.specs.Option.{option_map_or};
 ghost use Rattle.vrx_num.specs.declared.limits.TheConstants.{WINDOW as WINDOW_SIZE};
-ghost use Rattle.vrx_asks.specs.Asks.{are_below, asked_numbers, given_up_numbers, is_near};
+ghost use Rattle.vrx_asks.specs.Asks.{are_below, asked_numbers, asks_left, given_up_numbers, is_near};
 ghost use Rattle.vrx_asks.specs.IsAsks.{IsAsks};
 ghost use Rattle.vrx_core.specs.machine.GivenUp.{numbers_below};
 ghost use Rattle.vrx_core.specs.inside.Wants.{AreBelow, beyond_front, gap_from as gap_start, gap_of, is_lost_open as is_lost_open_by, is_open as is_open_by, key_taken, last_of as last_among, later_of as later_one, needs_key, nothing_wanted, asks_key, wanted_pulled, wanted_taken, wanted_ticked, with_all_missing};
@@ -13,7 +13,7 @@ use crate::keys::later;
 use arrayvec::ArrayVec;
 use std::alloc::Global;
 use std::marker::Model;
-use vrx_asks::{Asks, KeyAsk};
+use vrx_asks::{Asks, Due, KeyAsk};
 use vrx_num::NoMemory;
 use vrx_num::limits::WINDOW;
 
@@ -114,6 +114,22 @@ fn notice(asks: &mut Asks, from: u64, below: u64, now: u64) -> ArrayVec<u64, 204
     numbers
 }
 
+/// What is due at a moment. Its contract also says what always holds of the missing numbers.
+fn due_of(asks: &mut Asks, now: u64, interval: u32) -> Due
+    ensures ask { result.ask.items ≡ asked_numbers now interval asks.old }
+    ensures give_up { result.give_up.items ≡ given_up_numbers now interval asks.old }
+    ensures left { asks.new ≡ asks_left now interval asks.old }
+    ensures sound { IsAsks asks.old }
+{
+    if asks.is_empty() {
+        return Due {
+            ask: ArrayVec::new(),
+            give_up: ArrayVec::new(),
+        };
+    }
+    asks.due(now, interval)
+}
+
 impl Requests {
     /// Nothing is wanted. Only this call takes memory.
     pub(crate) fn new(alloc: Global) -> Result<Requests, NoMemory>
@@ -126,13 +142,6 @@ impl Requests {
             keyed: false,
             key_ask: KeyAsk::new(),
         })
-    }
-
-    /// Whether nothing is missing. Its contract also says what always holds of the missing numbers.
-    pub(crate) fn is_idle(&self) -> bool
-        ensures sound { IsAsks self.now.asks }
-    {
-        self.asks.is_empty()
     }
 
     /// A packet was taken: what it is waits no more, and what it makes missing is asked for. Numbers that are passed, or
@@ -181,7 +190,7 @@ impl Requests {
         ensures key { result.key ≡ asks_key now (needs_key now interval started key self.old) self.old.key_asked }
         ensures sound { IsAsks self.old.asks }
     {
-        let due = self.asks.due(now, interval);
+        let due = due_of(&mut self.asks, now, interval);
         self.lost = later_of(last_of(due.give_up.as_slice()), self.lost);
         let wants = is_lost_open(key, self.key_pulled, self.lost) || (started && !self.keyed);
         Ticked {
