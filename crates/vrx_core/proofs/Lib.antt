@@ -2,4 +2,5 @@ mod machine
 mod buffer
 mod relation
 mod step
+mod asking
 mod honest

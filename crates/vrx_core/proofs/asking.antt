@@ -1,0 +1,4 @@
+-- Lemmas of what is asked for, and of what is given up.
+pub mod RangeLemmas
+pub mod MissingLemmas
+pub mod SaneLemmas
