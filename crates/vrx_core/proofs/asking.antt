@@ -2,3 +2,8 @@
 pub mod RangeLemmas
 pub mod MissingLemmas
 pub mod SaneLemmas
+pub mod FrontLemmas
+pub mod AskLemmas
+pub mod TakenLemmas
+pub mod AskingLemmas
+pub mod WantsLemmas
