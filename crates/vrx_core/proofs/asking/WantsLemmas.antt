@@ -1,6 +1,7 @@
 -- What an engine keeps of the requests, event by event: the missing numbers with their requests, and the greatest number
 -- given up, are those of the machine's past.
 use Rattle.std.proofs.Common.{◌≡◌, ℕ, zero, suc, ◌+◌, ◌-◌, ◌<◌, ◌≤◌, max, Bool, true, false, cond, not, ◌&&◌, ◌||◌, ◌==◌, List, [], ◌∷◌, ◌++◌, map, length, filter, Contains, Option, Some, None, Ok, refl, sym, ◌∙◌, ap, subst, arith, nat_lt, nat_le}
+use Rattle.std.proofs.lemmas.Bool.{true≢false}
 use Rattle.std.proofs.lemmas.Option.{none-some}
 use Rattle.vrx_num.specs.declared.limits.TheConstants.{MOST_REQUESTS, WINDOW}
 use Rattle.vrx_asks.specs.Asks.{ask_after, asked_numbers, asks_left, beyond, given_up_numbers, is_asked, is_given_up, numbers, without}
@@ -51,7 +52,7 @@ pulled-test : (a p q l : Bool) → (p ≡ true → q ≡ true) → (not q && (no
 pulled-test true p true l stays = refl
 pulled-test true p false l stays = refl
 pulled-test false p true l stays = refl
-pulled-test false true false l stays = absurd (cc)
+pulled-test false true false l stays = absurd (true≢false (sym (stays refl)))
 pulled-test false false false l stays = refl
 
 module _ (codec : Meaning) (past : List Snapshot) (moment : ℕ) (run : Run) where
