@@ -1,16 +1,20 @@
 -- What the front passes over as it goes on: numbers that are available, and none beyond the newest.
-use Rattle.std.proofs.Common.{◌≡◌, ℕ, zero, suc, ◌+◌, ◌-◌, ◌<◌, ◌≤◌, ◌⊎◌, max, Bool, true, false, cond, List, [], ◌∷◌, Option, Some, None, is_some, IfSome, IsSomeAnd, Result, Ok, Err, refl, sym, ◌∙◌, ap, subst, arith, inl, inr, length, nat_le, Contains}
-use Rattle.std.specs.Option.{option_map_or}
+use Rattle.std.proofs.Common.{◌≡◌, ℕ, zero, suc, ◌+◌, ◌-◌, ◌<◌, ◌≤◌, ◌⊎◌, max, Bool, true, false, cond, ◌&&◌, ◌==◌, List, [], ◌∷◌, map, Option, Some, None, is_some, IfSome, IsSomeAnd, Result, Ok, Err, refl, sym, ◌∙◌, ap, subst, arith, inl, inr, length, nat_le, Contains}
+use Rattle.std.specs.List.{cons_option, flat_map, filter_map, list_all, list_any}
+use Rattle.std.specs.Option.{option_map, option_map_or}
+use Rattle.std.specs.Result.{result_ok}
 use Rattle.std.proofs.lemmas.Bool.{le-leb, leb-true, cases_lt, cases_Bool, false_from_ne_true, true≢false}
+use Rattle.std.proofs.lemmas.Option.{none-some, same_Some}
 use Rattle.vrx_num.specs.declared.limits.TheConstants.{WINDOW}
 use Rattle.vrx_codec.specs.Meaning.{Meaning}
 use Rattle.vrx_window.specs.Content.{Content}
 use Rattle.vrx_window.specs.Window.{Contents, at, is_available, newest_with, placed}
 use Rattle.vrx_frames.specs.Front.{is_no_media, reached, front_after}
-use Rattle.vrx_frames.specs.IsRun.{ArePieces, IsRunBy, RunsAre}
-use Rattle.vrx_frames.specs.Run.{Packets, Piece, Run, is_passed}
+use Rattle.vrx_codec.specs.declared.run.Place.{Place}
+use Rattle.vrx_frames.specs.Run.{◌>>=◌, Packets, Piece, Run, first_alone, is_passed, is_start, last_alone, run_of, runs_by, stands, stretch}
 use Rattle.vrx_core.specs.machine.Available.{IsInWindow}
-use Rattle.vrx_core.specs.machine.Machine.{Snapshot, latest, last_pulled, next_run, after_datagram, after_pull, snapshots}
+use Rattle.vrx_core.specs.machine.Machine.{Snapshot, latest, last_pulled, times, next_run, after_datagram, after_pull, snapshots}
+use Rattle.vrx_core.specs.machine.Standing.{began_behind, no_layers, runs}
 use Rattle.vrx_core.specs.machine.Verdict.{verdict}
 use Rattle.vrx_core.specs.declared.settings.Settings.{Settings}
 use Rattle.vrx_core.specs.declared.event.Event.{Event}
@@ -19,7 +23,10 @@ use Rattle.vrx_core.specs.declared.original.NotTaken.{NotTaken}
 use Rattle.vrx_core.proofs.machine.AnswerLemmas.{answer-given}
 use Rattle.vrx_core.proofs.machine.AvailableLemmas.{available-inside}
 use Rattle.vrx_core.proofs.machine.PassedLemmas.{has_none, reached-from}
-use Rattle.vrx_core.proofs.machine.StandingLemmas.{IsRunNow, standing-from, standing_is}
+use Rattle.vrx_core.proofs.machine.StandingLemmas.{IsSettled, standing_is}
+use Rattle.vrx_core.proofs.relation.ListLemmas.{Contains-head, Contains-tail, Contains-either, Contains-empty, filter-from, map-from}
+use Rattle.vrx_core.proofs.relation.MapLemmas.{entry-available}
+use Rattle.vrx_core.proofs.asking.RangeLemmas.{append-from}
 use Rattle.vrx_core.proofs.asking.SaneLemmas.{available-there}
 
 -- what is no media is there
@@ -148,26 +155,64 @@ upto-with : (newest : Option ℕ) (n m : ℕ) → IsUpToNewest newest m → m �
 upto-with None n m h = absurd h
 upto-with (Some k) n m h = let most : m ≤ k = h in omega (arith, most)
 
--- each of pieces is available
-pieces-there : (codec : Meaning) (packets : Packets) (n : ℕ) (pieces : List Piece) (k : ℕ) → ArePieces codec packets n pieces → k < length pieces → is_available (n + k) packets ≡ true
-pieces-there codec packets n [] k are less = absurd (omega (arith, less))
-pieces-there codec packets n (piece ∷ pieces) zero are less = ap (λ m. is_available m packets) (let e : n + 0 ≡ n = omega arith in e) ∙ ap is_some are.0.media
-pieces-there codec packets n (piece ∷ pieces) (suc k) are less = ap (λ m. is_available m packets) (let e : n + suc k ≡ n + 1 + k = omega arith in e) ∙ pieces-there codec packets (n + 1) pieces k are.1 (omega (arith, less))
+-- what is in lists of lists
+flat-from : {X Y : Type 0} (f : X → List Y) (xs : List X) (y : Y) → Contains (flat_map f xs) y → (x : X) × Contains xs x × Contains (f x) y
+flat-from f [] y c = absurd (Contains-empty y c)
+flat-from f (x ∷ xs) y c = elim (append-from (f x) (flat_map f xs) y c) [
+  | inl here ↦ (x, Contains-head x xs, here)
+  | inr later ↦ let p : (z : _) × Contains xs z × Contains (f z) y = flat-from f xs y later in (p.0, Contains-tail x xs p.0 p.1, p.2)
+]
 
--- the last number of a run is available
-run-there : (codec : Meaning) (past : List Snapshot) (run : Run) → IsRunNow codec past run → is_available run.last (latest past).window.packets ≡ true
-run-there codec past run is =
-    let count : run.first + length is.pieces ≡ run.last + 1 = is.to_last in
-    let least : run.first ≤ run.last = is.not_empty in
-    let place : run.first + (run.last - run.first) ≡ run.last = omega (arith, least) in
-    ap (λ m. is_available m (latest past).window.packets) (sym place)
-    ∙ pieces-there codec (latest past).window.packets run.first is.pieces (run.last - run.first) is.from_first (omega (arith, count, least))
+-- and what is in what a function gives of a list
+chosen-either : {Y : Type 0} (o : Option Y) (ys : List Y) (y : Y) → Contains (cons_option o ys) y → (o ≡ Some y) ⊎ Contains ys y
+chosen-either None ys y c = inr c
+chosen-either (Some z) ys y c = elim (Contains-either z ys y c) [ inl same ↦ inl (ap (λ w. Some w) same) | inr later ↦ inr later ]
+
+chosen-from : {X Y : Type 0} (f : X → Option Y) (xs : List X) (y : Y) → Contains (filter_map f xs) y → (x : X) × Contains xs x × (f x ≡ Some y)
+chosen-from f [] y c = absurd (Contains-empty y c)
+chosen-from f (x ∷ xs) y c = elim (chosen-either (f x) (filter_map f xs) y c) [
+  | inl here ↦ (x, Contains-head x xs, here)
+  | inr later ↦ let p : (z : _) × Contains xs z × (f z ≡ Some y) = chosen-from f xs y later in (p.0, Contains-tail x xs p.0 p.1, p.2)
+]
+
+-- a run has the last number that it is looked for by
+made-last : (b : Bool) (o : Option (List ℕ)) (make : List ℕ → Run) (last : ℕ) (run : Run) → ((bytes : List ℕ) → (make bytes).last ≡ last) → cond b (option_map make o) None ≡ Some run → run.last ≡ last
+made-last false o make last run is h = absurd (none-some run h)
+made-last true None make last run is h = absurd (none-some run h)
+made-last true (Some bytes) make last run is h = ap (λ (r : Run). r.last) (sym (same_Some (make bytes) run h)) ∙ is bytes
+
+module _ (codec : Meaning) (place : ℕ → Option Place) (starts : Piece → Bool) (packets : Packets) (run : Run) where
+  pieces-last : (last : ℕ) (pieces : List Piece) → run_of codec place starts last pieces ≡ Some run → run.last ≡ last
+  pieces-last last [] h = absurd (none-some run h)
+  pieces-last last (piece ∷ pieces) h =
+      made-last (list_all (λ p. p.packet.ts == piece.packet.ts) pieces && first_alone starts (piece ∷ pieces) && last_alone (λ p. p.packet.marker) (piece ∷ pieces)) (result_ok (codec.join (map (λ (p : Piece). p.part) (piece ∷ pieces))))
+      (λ bytes. record { first = piece.number; last = last; ts = piece.packet.ts; key = list_any (λ p. p.part.key) (piece ∷ pieces); layers = place piece.number; bytes = bytes }) last run (λ bytes. refl) h
+
+  stretch-last : (last : ℕ) (o : Option (List Piece)) → (o >>= run_of codec place starts last) ≡ Some run → run.last ≡ last
+  stretch-last last None h = absurd (none-some run h)
+  stretch-last last (Some pieces) h = pieces-last last pieces h
+
+  -- its last number is available
+  run-there : Contains (runs_by codec place starts packets) run → is_available run.last packets ≡ true
+  run-there c =
+      let ns : List ℕ = map (λ (entry : ℕ × Content). entry.0) packets in
+      let p : (first : ℕ) × Contains ns first × Contains (filter_map (λ last. stretch codec packets first last >>= run_of codec place starts last) ns) run = flat-from (λ first. filter_map (λ last. stretch codec packets first last >>= run_of codec place starts last) ns) ns run c in
+      let q : (last : ℕ) × Contains ns last × ((stretch codec packets p.0 last >>= run_of codec place starts last) ≡ Some run) = chosen-from (λ last. stretch codec packets p.0 last >>= run_of codec place starts last) ns run p.2 in
+      let e : (entry : ℕ × Content) × Contains packets entry × (entry.0 ≡ q.0) = map-from (λ (entry : ℕ × Content). entry.0) packets q.0 q.1 in
+      ap (λ m. is_available m packets) (stretch-last q.0 (stretch codec packets p.0 q.0) q.2 ∙ sym e.2) ∙ entry-available packets e.0 e.1
+
+-- the last number of a run that stands is available
+stood-there : (codec : Meaning) (past : List Snapshot) (run : Run) → IsSettled codec past → Contains (latest past).standing run → is_available run.last (latest past).window.packets ≡ true
+stood-there codec past run settled c =
+    let s : Snapshot = latest past in
+    run-there codec no_layers (is_start s.front (began_behind (times past))) s.window.packets run
+    (filter-from (stands (last_pulled s.pulled)) (runs codec (times past) s.front s.window.packets) run (subst (λ (rs : List Run). Contains rs run) settled c)).0
 
 -- after each event no number above the newest is passed
 abbrev FrontUpTo : Snapshot → Type 0
 FrontUpTo s = (m : ℕ) → is_passed s.front m ≡ true → IsUpToNewest s.window.newest m
 
-module _ (are : RunsAre) (settings : Settings) (codec : Meaning) where
+module _ (settings : Settings) (codec : Meaning) where
   upto-datagram : (h : List Event) (moment : ℕ) (octets : List ℕ) (v : Result (ℕ × Content) NotTaken)
       → ((m : ℕ) → is_available m (after_datagram codec (snapshots settings codec h) moment v).window.packets ≡ true → IsInWindow (after_datagram codec (snapshots settings codec h) moment v).window.newest m)
       → FrontUpTo (latest (snapshots settings codec h)) → FrontUpTo (after_datagram codec (snapshots settings codec h) moment v)
@@ -183,11 +228,10 @@ module _ (are : RunsAre) (settings : Settings) (codec : Meaning) where
   upto-pull h moment (Some run) is before m passed =
       let s : Snapshot = latest (snapshots settings codec h) in
       let given : Contains s.standing run = (answer-given (last_pulled s.pulled) s.front s.standing run is).0 in
-      let stood : IsRunNow codec (snapshots settings codec h) run = (standing-from are codec (snapshots settings codec h) (standing_is settings codec h) run given).0 in
       elim (passed-either s.front (Some run.last) s.window.packets m passed) [
         | inl old ↦ before m old
         | inr other ↦ elim other [
-          | inl upto ↦ upto-less s.window.newest run.last m (upto-window s.window.newest run.last (available-within settings codec h run.last (run-there codec (snapshots settings codec h) run stood))) upto
+          | inl upto ↦ upto-less s.window.newest run.last m (upto-window s.window.newest run.last (available-within settings codec h run.last (stood-there codec (snapshots settings codec h) run (standing_is settings codec h) given))) upto
           | inr there ↦ upto-window s.window.newest m (available-within settings codec h m there)
         ]
       ]

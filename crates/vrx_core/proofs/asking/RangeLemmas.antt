@@ -147,3 +147,22 @@ module _ {X : Type 0} where
   list_all-each test (y ∷ xs) x all c =
       let p : (test y ≡ true) × (list_all test xs ≡ true) = and_parts (test y) (list_all test xs) all in
       elim (Contains-either y xs x c) [ inl same ↦ ap test (sym same) ∙ p.0 | inr later ↦ list_all-each test xs x p.1 later ]
+
+  -- what is in one list after another
+  pub append-from : (xs ys : List X) (z : X) → Contains (xs ++ ys) z → Contains xs z ⊎ Contains ys z
+  append-from [] ys z c = inr c
+  append-from (x ∷ xs) ys z c = elim (Contains-either x (xs ++ ys) z c) [
+    | inl same ↦ inl (subst (λ w. Contains (x ∷ xs) w) same (Contains-head x xs))
+    | inr later ↦ elim (append-from xs ys z later) [ inl left ↦ inl (Contains-tail x xs z left) | inr right ↦ inr right ]
+  ]
+
+  pub append-left : (xs ys : List X) (z : X) → Contains xs z → Contains (xs ++ ys) z
+  append-left [] ys z c = absurd (Contains-empty z c)
+  append-left (x ∷ xs) ys z c = elim (Contains-either x xs z c) [
+    | inl same ↦ subst (λ w. Contains (x ∷ (xs ++ ys)) w) same (Contains-head x (xs ++ ys))
+    | inr later ↦ Contains-tail x (xs ++ ys) z (append-left xs ys z later)
+  ]
+
+  pub append-right : (xs ys : List X) (z : X) → Contains ys z → Contains (xs ++ ys) z
+  append-right [] ys z c = c
+  append-right (x ∷ xs) ys z c = Contains-tail x (xs ++ ys) z (append-right xs ys z c)

@@ -25,7 +25,7 @@ use Rattle.vrx_core.proofs.machine.KeyLemmas.{same_key}
 use Rattle.vrx_core.proofs.relation.ListLemmas.{Rises, Contains-head, Contains-tail, Contains-either, Contains-empty, all-of, all-in, filter-from, filter-to, filter-same, rises-filter, same-lists}
 use Rattle.vrx_core.proofs.asking.AskLemmas.{WasCounted, all-missing, ask-is, ask_from, beyond-front, beyond-number, first_ask, requests-more, requests-never, requests-none, without-number}
 use Rattle.vrx_core.proofs.asking.MissingLemmas.{missing-from, missing-rises, missing-to}
-use Rattle.vrx_core.proofs.asking.RangeLemmas.{Leaves, among-from, among-to, below-bounds, below-rises, below-to, left-from, map-same}
+use Rattle.vrx_core.proofs.asking.RangeLemmas.{Leaves, among-from, among-to, append-from, append-left, append-right, below-bounds, below-rises, below-to, left-from, map-same}
 use Rattle.vrx_core.proofs.asking.SaneLemmas.{IsBelow, IsSane, IsStarted, available-there, below-with, some-value, taken-lost-is, taken-asked-missing, was_asked}
 
 -- the numbers that are missing with a packet lie between the newest number before and the newest after
@@ -41,26 +41,6 @@ gap-to (Some k) n m above within below = let less : k < m = above in below-to (m
 
 pub gap-rises : (newest : Option ℕ) (n : ℕ) → Rises (λ m. m) (gap_of newest n)
 gap-rises newest n = below-rises (gap_from newest (newest_with newest n)) (newest_with newest n)
-
-module _ {X : Type 0} where
-  -- what is in one list after another
-  pub append-from : (xs ys : List X) (z : X) → Contains (xs ++ ys) z → Contains xs z ⊎ Contains ys z
-  append-from [] ys z c = inr c
-  append-from (x ∷ xs) ys z c = elim (Contains-either x (xs ++ ys) z c) [
-    | inl same ↦ inl (subst (λ w. Contains (x ∷ xs) w) same (Contains-head x xs))
-    | inr later ↦ elim (append-from xs ys z later) [ inl left ↦ inl (Contains-tail x xs z left) | inr right ↦ inr right ]
-  ]
-
-  pub append-left : (xs ys : List X) (z : X) → Contains xs z → Contains (xs ++ ys) z
-  append-left [] ys z c = absurd (Contains-empty z c)
-  append-left (x ∷ xs) ys z c = elim (Contains-either x xs z c) [
-    | inl same ↦ subst (λ w. Contains (x ∷ (xs ++ ys)) w) same (Contains-head x (xs ++ ys))
-    | inr later ↦ Contains-tail x (xs ++ ys) z (append-left xs ys z later)
-  ]
-
-  pub append-right : (xs ys : List X) (z : X) → Contains ys z → Contains (xs ++ ys) z
-  append-right [] ys z c = c
-  append-right (x ∷ xs) ys z c = Contains-tail x (xs ++ ys) z (append-right xs ys z c)
 
 -- two lists that rise, one below the other, rise together
 pub rises-append : (xs ys : List ℕ) → Rises (λ m. m) xs → Rises (λ m. m) ys → ((x y : ℕ) → Contains xs x → Contains ys y → x < y) → Rises (λ m. m) (xs ++ ys)

@@ -11,7 +11,6 @@ use Rattle.vrx_codec.specs.Meaning.{Meaning}
 use Rattle.vrx_window.specs.Content.{Content}
 use Rattle.vrx_window.specs.Window.{is_available, is_dead, newest_with}
 use Rattle.vrx_frames.specs.Completed.{is_among}
-use Rattle.vrx_frames.specs.IsRun.{RunsAre}
 use Rattle.vrx_frames.specs.Run.{Run, is_passed}
 use Rattle.vrx_core.specs.inside.Wants.{asks_taken, beyond_front, gap_of, last_of, later_of, lost_ticked, with_all_missing}
 use Rattle.vrx_core.specs.machine.GivenUp.{all_lost, is_lost, numbers_left}
@@ -198,7 +197,7 @@ lost-ticked settings past moment wanted is sound lost =
 abbrev asks_by : (now : ℕ) → Option ℕ → ℕ → Option ℕ → List Ask → List Ask
 asks_by now newest n front asks = with_all_missing now (gap_of newest n) (beyond_front front (beyond (newest_with newest n - WINDOW) (without n asks)))
 
-module _ (are : RunsAre) (settings : Settings) (codec : Meaning) (h : List Event) (moment n : ℕ) (content : Content) (arrival : Arrival)
+module _ (settings : Settings) (codec : Meaning) (h : List Event) (moment n : ℕ) (content : Content) (arrival : Arrival)
     (number_is : arrival.number ≡ n) (newest_is : arrival.newest ≡ (latest (snapshots settings codec h)).window.newest) where
   abbrev past : List Snapshot
   past = snapshots settings codec h
@@ -213,20 +212,20 @@ module _ (are : RunsAre) (settings : Settings) (codec : Meaning) (h : List Event
         ap (λ k. asks_by now arrival.newest k front asks) number_is
         ∙ ap (λ o. asks_by now o n front asks) newest_is
         ∙ ap (asks_by now (latest past).window.newest n front) is
-        ∙ asks-are codec past moment n content (sane settings codec h) (passed-same settings codec h moment n content) (passed-below are settings codec h) (available-within settings codec h) (counted-of past asks is sound)
+        ∙ asks-are codec past moment n content (sane settings codec h) (passed-same settings codec h moment n content) (passed-below settings codec h) (available-within settings codec h) (counted-of past asks is sound)
 
     -- what it asks for is the gap
     pub gap-taken : gap_of arrival.newest arrival.number ≡ (after_datagram codec (snapshots settings codec h) moment (Ok (n, content))).asked
     gap-taken =
         ap (gap_of arrival.newest) number_is
         ∙ ap (λ o. gap_of o n) newest_is
-        ∙ gap-is-asked codec past moment n content (sane settings codec h) (passed-same settings codec h moment n content) (passed-below are settings codec h) (available-within settings codec h) (counted-of past asks is sound)
+        ∙ gap-is-asked codec past moment n content (sane settings codec h) (passed-same settings codec h moment n content) (passed-below settings codec h) (available-within settings codec h) (counted-of past asks is sound)
 
   module _ (lost_is : arrival.lost ≡ greatest_of (filter (λ m. not (is_passed (latest (snapshots settings codec h)).front m) && not (is_dead m (latest (snapshots settings codec h)).window.dead))
         (numbers_left (latest (snapshots settings codec h)).window.first (latest (snapshots settings codec h)).window.newest (Some (newest_with (latest (snapshots settings codec h)).window.newest n))))) where
     -- the greatest number that it gives up
     pub lost-arrived : arrival.lost ≡ greatest_of (after_datagram codec (snapshots settings codec h) moment (Ok (n, content))).lost
-    lost-arrived = lost_is ∙ ap greatest_of (lost-is codec past moment n content (sane settings codec h) (passed-same settings codec h moment n content) (passed-below are settings codec h) (available-within settings codec h))
+    lost-arrived = lost_is ∙ ap greatest_of (lost-is codec past moment n content (sane settings codec h) (passed-same settings codec h moment n content) (passed-below settings codec h) (available-within settings codec h))
 
     -- and that was given up so far
     pub lost-taken : (lost : Option ℕ) → lost ≡ greatest_of (all_lost (snapshots settings codec h))
