@@ -1,6 +1,6 @@
 //! The engine: three events and what each answers.
 
-ghost use Rattle.std.specs.Prelude.{◌≡◌, ◌⊎◌, ◌+◌, ◌^◌, ◌<◌, ◌≤◌, ◌↔◌, max, List, [], ◌∷◌, Some, None, OnOk, OnErr, IfOk, IfSome, IfErr, IsOk, IsErr, IsErrOf};
+ghost use Rattle.std.specs.Prelude.{◌≡◌, ◌⊎◌, ◌+◌, ◌^◌, ◌<◌, ◌≤◌, ◌↔◌, max, List, [], ◌∷◌, Some, None, OnOk, OnErr, IfOk, IfSome, IfErr, IsOk, IsErr, IsErrOf, IsSome};
 ghost use Rattle.vrx_window.specs.Content.{contents_of};
 ghost use Rattle.vrx_frames.specs.Run.{Run as RunOf};
 ghost use Rattle.vrx_core.specs.machine.Machine.{ToDatagram, ToTick, ToPull, IfFrame, frame_of as frame_of_run, last_pulled as last_pulled_of, latest, nack_for, pli_for, reply, snapshots, what_of};
@@ -11,7 +11,8 @@ ghost use Rattle.vrx_core.specs.machine.Reasons.{MeansAnswer};
 ghost use Rattle.vrx_core.specs.relation.StandsFor.{StandsFor};
 ghost use Rattle.vrx_core.specs.relation.Order.{greatest_of};
 ghost use Rattle.vrx_core.specs.inside.Kept.{key_numbers};
-ghost use Rattle.vrx_core.specs.inside.Wants.{AreBelow, AreNear, gap_of, key_taken, wanted_taken};
+ghost use Rattle.vrx_core.specs.inside.Wants.{AreBelow, AreNear, asked_with, key_with, wanted_with};
+ghost use Rattle.vrx_asks.specs.IsAsks.{IsAsks};
 ghost use Rattle.vrx_core.specs.declared.event.Event.{Event};
 ghost use Rattle.vrx_core.specs.declared.reply.What.{What};
 
@@ -82,26 +83,32 @@ fn pli_if(settings: &Settings, key: bool) -> Option<[u8; 12]>
     }
 }
 
-/// Asks for what is missing, and for a keyframe, once a packet was taken.
+/// Asks for what is missing, and for a keyframe, once a datagram was handled. One that isn't taken asks for nothing.
 fn ask<C: Codec>(
     assembler: &Assembler<C>,
     requests: &mut Requests,
-    arrival: &Arrival,
+    arrival: &Option<Arrival>,
 ) -> Feedback
-    requires below { AreBelow arrival.now.newest requests.old.asks }
-    requires short { IfSome arrival.now.newest (λ m. m < 2 ^ 62) }
-    ensures wanted { requests.new ≡ wanted_taken assembler.now.clock arrival.now assembler.now.front (greatest_of (key_numbers assembler.now.frames)) requests.old }
-    ensures nack { result.nack ≡ nack_for assembler.now.settings (gap_of arrival.now.newest arrival.now.number) }
-    ensures pli { result.pli ≡ pli_for assembler.now.settings (key_taken assembler.now.clock arrival.now (greatest_of (key_numbers assembler.now.frames)) requests.old) }
+    requires below { IfSome arrival.now (λ a. AreBelow a.newest requests.old.asks) }
+    requires short { IfSome arrival.now (λ a. IfSome a.newest (λ m. m < 2 ^ 62)) }
+    ensures wanted { requests.new ≡ wanted_with assembler.now.clock assembler.now.front (greatest_of (key_numbers assembler.now.frames)) arrival.now requests.old }
+    ensures nack { result.nack ≡ nack_for assembler.now.settings (asked_with arrival.now) }
+    ensures pli { result.pli ≡ pli_for assembler.now.settings (key_with assembler.now.clock (greatest_of (key_numbers assembler.now.frames)) arrival.now requests.old) }
+    ensures sound { IsSome arrival.now → IsAsks requests.old.asks }
 {
-    let now = assembler.now();
-    let front = assembler.front();
-    let key = assembler.greatest_key();
-    let asked = requests.taken(now, arrival, front, key);
-    let settings = assembler.settings();
-    Feedback {
-        nack: nack_unless_none(settings, asked.numbers.as_slice()),
-        pli: pli_if(settings, asked.key),
+    match arrival {
+        None => NO_FEEDBACK,
+        Some(arrival) => {
+            let now = assembler.now();
+            let front = assembler.front();
+            let key = assembler.greatest_key();
+            let asked = requests.taken(now, arrival, front, key);
+            let settings = assembler.settings();
+            Feedback {
+                nack: nack_unless_none(settings, asked.numbers.as_slice()),
+                pli: pli_if(settings, asked.key),
+            }
+        }
     }
 }
 
@@ -192,10 +199,7 @@ impl<C: Codec> Engine<C> {
         runs_are();
         runs_rise();
         let outcome = self.assembler.handle(moment, bytes)?;
-        let feedback = match &outcome.arrival {
-            Some(arrival) => ask(&self.assembler, &mut self.requests, arrival),
-            None => NO_FEEDBACK,
-        };
+        let feedback = ask(&self.assembler, &mut self.requests, &outcome.arrival);
         Ok(Handled {
             what: outcome.what,
             repaired: Numbers::new(self.alloc),

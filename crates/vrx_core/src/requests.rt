@@ -158,7 +158,10 @@ impl Requests {
         ensures wanted { self.new ≡ wanted_taken now arrival.now front key self.old }
         ensures numbers { result.numbers.items ≡ gap_of arrival.now.newest arrival.now.number }
         ensures key { result.key ≡ key_taken now arrival.now key self.old }
+        ensures sound { IsAsks self.old.asks }
     {
+        // What always holds of the missing numbers is a clause of this call.
+        let _ = self.asks.is_empty();
         let after = arrival.newest.unwrap_or(arrival.number).max(arrival.number);
         self.asks.arrived(arrival.number);
         self.asks.passed(after.saturating_sub(WINDOW));

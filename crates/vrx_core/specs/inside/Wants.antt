@@ -139,3 +139,18 @@ nothing_wanted = record { asks = []; lost = None; key_pulled = None; keyed = fal
 pub record AreNear (numbers : List ℕ) : Type 0 where
   pub rise : IsStrictlyIncreasing numbers
   pub near : 1 ≤ length numbers → slice_index numbers (length numbers - 1) ≤ slice_index numbers 0 + NACK_SPAN
+
+-- what is wanted once a datagram was handled: all stays as it was, if it isn't taken
+abbrev pub wanted_with : (now : ℕ) → (front key : Option ℕ) → Option Arrival → Wanted → Wanted
+wanted_with now front key None wanted = wanted
+wanted_with now front key (Some arrival) wanted = wanted_taken now arrival front key wanted
+
+-- the numbers that it asks for
+abbrev pub asked_with : Option Arrival → List ℕ
+asked_with None = []
+asked_with (Some arrival) = gap_of arrival.newest arrival.number
+
+-- whether it asks for a keyframe
+abbrev pub key_with : (now : ℕ) → (key : Option ℕ) → Option Arrival → Wanted → Bool
+key_with now key None wanted = false
+key_with now key (Some arrival) wanted = key_taken now arrival key wanted
