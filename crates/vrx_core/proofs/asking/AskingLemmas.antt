@@ -1,5 +1,5 @@
--- What holds of requests: how many there are of a number, how far apart they lie, and that what is asked for is missing;
--- and that what was given up stays so.
+-- What holds of requests: how many there are of a number, how far apart they lie, and that what is asked for is
+-- missing; and that what was given up stays so.
 use Rattle.std.proofs.Common.{◌≡◌, ◌≢◌, ℕ, suc, ◌+◌, ◌<◌, ◌≤◌, ◌⊎◌, max, Bool, true, false, ◌&&◌, ◌==◌, List, [], ◌∷◌, length, Option, Some, None, Result, Ok, Err, refl, sym, ◌∙◌, ap, subst, arith, inl, inr, nat_lt}
 use Rattle.std.proofs.lemmas.Bool.{and_parts, or_from, or_right, eqb-true, false_from_ne_true, leb-true, leb-false, ltb-true, true≢false}
 use Rattle.vrx_num.specs.declared.limits.TheConstants.{MOST_REQUESTS, WINDOW}

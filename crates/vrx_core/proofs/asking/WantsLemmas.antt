@@ -1,5 +1,5 @@
--- What an engine keeps of the requests, event by event: the missing numbers with their requests, and the greatest number
--- given up, are those of the machine's past.
+-- What an engine keeps of the requests, event by event: the missing numbers with their requests, and the greatest
+-- number given up, are those of the machine's past.
 use Rattle.std.proofs.Common.{◌≡◌, ℕ, suc, ◌+◌, ◌-◌, max, Bool, true, false, cond, not, ◌&&◌, ◌||◌, ◌==◌, List, [], ◌∷◌, map, length, filter, Contains, Option, Some, None, Ok, refl, sym, ◌∙◌, ap, subst, arith, nat_lt}
 use Rattle.std.proofs.lemmas.Bool.{true≢false}
 use Rattle.std.proofs.lemmas.Option.{none-some}
