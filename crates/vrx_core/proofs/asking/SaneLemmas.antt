@@ -1,4 +1,4 @@
--- What holds after every history: of the numbers asked for, of those given up, and of the first and the newest number.
+-- What holds after every history: of the numbers asked for and given up, and of the first and the newest number.
 use Rattle.std.proofs.Common.{◌≡◌, ℕ, ◌+◌, ◌<◌, ◌≤◌, ◌⊎◌, max, Bool, true, false, not, ◌&&◌, ◌||◌, ◌==◌, List, [], ◌∷◌, Option, Some, None, is_some, IsSomeAnd, unwrap_or, Result, Ok, Err, refl, sym, ◌∙◌, ap, subst, arith, inl, inr, nat_lt, length}
 use Rattle.std.specs.List.{list_any}
 use Rattle.std.proofs.lemmas.Bool.{and_parts, or_cases, cases_lt, cases_Bool, false_from_ne_true, true≢false}
