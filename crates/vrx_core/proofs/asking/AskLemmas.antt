@@ -1,21 +1,20 @@
 -- What is kept of requests, as lists: asks of moments, and the greatest of numbers.
-use Rattle.std.proofs.Common.{◌≡◌, ℕ, zero, suc, ◌+◌, ◌-◌, ◌<◌, ◌≤◌, ◌⊎◌, max, Bool, true, false, cond, not, ◌&&◌, ◌||◌, ◌==◌, List, [], ◌∷◌, ◌++◌, map, length, filter, Contains, Option, Some, None, IsSomeAnd, slice_get, refl, sym, ◌∙◌, ap, subst, arith, inl, inr, nat_lt, nat_le}
-use Rattle.std.specs.List.{AllByRecursion, list_any, list_all, flat_map}
-use Rattle.std.proofs.lemmas.Bool.{and_parts, or_parts, cases_lt, eq-eqb, ne_eqb, leb-true, leb-false, le-leb, lt-leb, lt-ltb, ltb-true, ltb-false, not-true, not_from_false, true≢false}
-use Rattle.std.proofs.lemmas.List.{append-nil, append_assoc, map-append}
+use Rattle.std.proofs.Common.{◌≡◌, ℕ, suc, ◌+◌, ◌-◌, ◌<◌, ◌≤◌, max, Bool, true, false, cond, not, ◌&&◌, ◌==◌, List, [], ◌∷◌, ◌++◌, map, length, filter, Contains, Option, Some, None, slice_get, refl, sym, ◌∙◌, ap, arith, inl, inr, nat_lt, nat_le}
+use Rattle.std.specs.List.{list_all}
+use Rattle.std.proofs.lemmas.Bool.{and_parts, or_parts, cases_lt, eq-eqb, ne_eqb, leb-true, le-leb, lt-leb, lt-ltb, ltb-true}
+use Rattle.std.proofs.lemmas.List.{append-nil, append_assoc}
 use Rattle.vrx_num.specs.Extended.{greater}
-use Rattle.vrx_num.specs.declared.limits.TheConstants.{MOST_REQUESTS, WINDOW}
-use Rattle.vrx_asks.specs.Asks.{ask_after, asked_numbers, asks_left, beyond, given_up_numbers, is_asked, is_due, is_given_up, numbers, with_missing, without}
+use Rattle.vrx_num.specs.declared.limits.TheConstants.{MOST_REQUESTS}
+use Rattle.vrx_asks.specs.Asks.{beyond, is_asked, is_given_up, numbers, with_missing, without}
 use Rattle.vrx_asks.specs.IsAsks.{IsAsks, is_counted}
 use Rattle.vrx_asks.specs.declared.ask.Ask.{Ask}
 use Rattle.vrx_frames.specs.Completed.{is_among}
 use Rattle.vrx_frames.specs.Run.{is_passed}
 use Rattle.vrx_core.specs.inside.Wants.{beyond_front, last_of, later_of, with_all_missing}
-use Rattle.vrx_core.specs.machine.Machine.{Snapshot, latest}
+use Rattle.vrx_core.specs.machine.Machine.{Snapshot}
 use Rattle.vrx_core.specs.machine.Request.{is_old, missing, requests}
 use Rattle.vrx_core.specs.relation.Order.{greatest_of}
 use Rattle.vrx_core.specs.relation.StandsFor.{ask_of}
-use Rattle.vrx_core.proofs.machine.TestLemmas.{same_test}
 use Rattle.vrx_core.proofs.relation.ListLemmas.{Rises, all-of, filter-map, filter-same, filter-whole, map-to}
 use Rattle.vrx_core.proofs.asking.RangeLemmas.{list_all-each}
 use Rattle.vrx_core.proofs.asking.SaneLemmas.{was_asked}

@@ -1,11 +1,11 @@
--- What holds of requests: how many there are of a number, how far apart they lie, and that what is asked for is missing;
--- and that what was given up stays so.
-use Rattle.std.proofs.Common.{◌≡◌, ◌≢◌, ℕ, zero, suc, ◌+◌, ◌-◌, ◌<◌, ◌≤◌, ◌⊎◌, max, Bool, true, false, cond, not, ◌&&◌, ◌||◌, ◌==◌, List, [], ◌∷◌, map, length, filter, Contains, Option, Some, None, Result, Ok, Err, IsSomeAnd, refl, sym, ◌∙◌, ap, subst, arith, inl, inr, nat_lt, nat_le}
+-- What holds of requests: how many there are of a number, how far apart they lie, and that what is asked for is
+-- missing; and that what was given up stays so.
+use Rattle.std.proofs.Common.{◌≡◌, ◌≢◌, ℕ, suc, ◌+◌, ◌<◌, ◌≤◌, ◌⊎◌, max, Bool, true, false, ◌&&◌, ◌==◌, List, [], ◌∷◌, length, Option, Some, None, Result, Ok, Err, refl, sym, ◌∙◌, ap, subst, arith, inl, inr, nat_lt}
 use Rattle.std.proofs.lemmas.Bool.{and_parts, or_from, or_right, eqb-true, false_from_ne_true, leb-true, leb-false, ltb-true, true≢false}
 use Rattle.vrx_num.specs.declared.limits.TheConstants.{MOST_REQUESTS, WINDOW}
 use Rattle.vrx_codec.specs.Meaning.{Meaning}
 use Rattle.vrx_window.specs.Content.{Content}
-use Rattle.vrx_window.specs.Window.{Contents, is_dead, is_inside, is_too_old}
+use Rattle.vrx_window.specs.Window.{Contents, is_inside, is_too_old}
 use Rattle.vrx_frames.specs.Completed.{is_among}
 use Rattle.vrx_frames.specs.Run.{Run}
 use Rattle.vrx_core.specs.machine.Asking.{AreApart, AskedAreMissingHolds, FewRequestsHold, IsMissing, LostStaysHolds, RequestsApartHold}
@@ -24,7 +24,7 @@ use Rattle.vrx_core.proofs.machine.VerdictLemmas.{IsFresh, verdict-taken, fresh-
 use Rattle.vrx_core.proofs.relation.ListLemmas.{filter-from}
 use Rattle.vrx_core.proofs.asking.AskLemmas.{requests-more, requests-none}
 use Rattle.vrx_core.proofs.asking.RangeLemmas.{among-from, among-to}
-use Rattle.vrx_core.proofs.asking.SaneLemmas.{IsBelow, sane, some-value, taken-asked-missing, tick-asked-missing}
+use Rattle.vrx_core.proofs.asking.SaneLemmas.{sane, some-value, taken-asked-missing, tick-asked-missing}
 use Rattle.vrx_core.proofs.asking.TakenLemmas.{missing-asked}
 
 -- a datagram that asks for a number asks for the first time

@@ -1,5 +1,5 @@
 -- What the front passes over as it goes on: numbers that are available, and none beyond the newest.
-use Rattle.std.proofs.Common.{◌≡◌, ℕ, zero, suc, ◌+◌, ◌-◌, ◌<◌, ◌≤◌, ◌⊎◌, max, Bool, true, false, cond, ◌&&◌, ◌==◌, List, [], ◌∷◌, map, Option, Some, None, is_some, IfSome, IsSomeAnd, Result, Ok, Err, refl, sym, ◌∙◌, ap, subst, arith, inl, inr, length, nat_le, Contains}
+use Rattle.std.proofs.Common.{◌≡◌, ℕ, zero, suc, ◌+◌, ◌<◌, ◌≤◌, ◌⊎◌, max, Bool, true, false, cond, ◌&&◌, ◌==◌, List, [], ◌∷◌, map, Option, Some, None, is_some, IfSome, IsSomeAnd, Result, Ok, Err, refl, sym, ◌∙◌, ap, subst, arith, inl, inr, Contains}
 use Rattle.std.specs.List.{cons_option, flat_map, filter_map, list_all, list_any}
 use Rattle.std.specs.Option.{option_map, option_map_or}
 use Rattle.std.specs.Result.{result_ok}
@@ -8,7 +8,7 @@ use Rattle.std.proofs.lemmas.Option.{none-some, same_Some}
 use Rattle.vrx_num.specs.declared.limits.TheConstants.{WINDOW}
 use Rattle.vrx_codec.specs.Meaning.{Meaning}
 use Rattle.vrx_window.specs.Content.{Content}
-use Rattle.vrx_window.specs.Window.{Contents, at, is_available, newest_with, placed}
+use Rattle.vrx_window.specs.Window.{at, is_available, newest_with, placed}
 use Rattle.vrx_frames.specs.Front.{is_no_media, reached, front_after}
 use Rattle.vrx_codec.specs.declared.run.Place.{Place}
 use Rattle.vrx_frames.specs.Run.{◌>>=◌, Packets, Piece, Run, first_alone, is_passed, is_start, last_alone, run_of, runs_by, stands, stretch}

@@ -1,7 +1,6 @@
 -- Which numbers are missing.
-use Rattle.std.proofs.Common.{◌≡◌, ◌↔◌, ℕ, ◌+◌, ◌<◌, ◌≤◌, Bool, true, false, not, ◌&&◌, List, [], ◌∷◌, Contains, refl, sym, ◌∙◌, ap}
+use Rattle.std.proofs.Common.{◌≡◌, ℕ, true, not, ◌&&◌, List, Contains}
 use Rattle.std.proofs.lemmas.Bool.{and_parts, and_from, not-true, not_from_false}
-use Rattle.vrx_window.specs.Content.{Content}
 use Rattle.vrx_window.specs.Window.{is_available}
 use Rattle.vrx_frames.specs.Run.{is_passed}
 use Rattle.vrx_core.specs.machine.Asking.{IsMissing, MissingHolds}

@@ -1,5 +1,5 @@
--- What holds after every history: of the numbers asked for, of those given up, and of the first and the newest number.
-use Rattle.std.proofs.Common.{◌≡◌, ℕ, ◌+◌, ◌-◌, ◌<◌, ◌≤◌, ◌⊎◌, max, Bool, true, false, cond, not, ◌&&◌, ◌||◌, ◌==◌, List, [], ◌∷◌, Contains, filter, Option, Some, None, is_some, IsSomeAnd, unwrap_or, Result, Ok, Err, refl, sym, ◌∙◌, ap, subst, arith, inl, inr, nat_lt, nat_le, length}
+-- What holds after every history: of the numbers asked for and given up, and of the first and the newest number.
+use Rattle.std.proofs.Common.{◌≡◌, ℕ, ◌+◌, ◌<◌, ◌≤◌, ◌⊎◌, max, Bool, true, false, not, ◌&&◌, ◌||◌, ◌==◌, List, [], ◌∷◌, Option, Some, None, is_some, IsSomeAnd, unwrap_or, Result, Ok, Err, refl, sym, ◌∙◌, ap, subst, arith, inl, inr, nat_lt, length}
 use Rattle.std.specs.List.{list_any}
 use Rattle.std.proofs.lemmas.Bool.{and_parts, or_cases, cases_lt, cases_Bool, false_from_ne_true, true≢false}
 use Rattle.vrx_num.specs.declared.limits.TheConstants.{MOST_REQUESTS, WINDOW}
@@ -7,11 +7,11 @@ use Rattle.vrx_codec.specs.Meaning.{Meaning}
 use Rattle.vrx_window.specs.Content.{Content}
 use Rattle.vrx_window.specs.Window.{Contents, at, in_window, is_available, is_dead, is_inside, newest_with, placed, placed_in}
 use Rattle.vrx_frames.specs.Completed.{is_among}
-use Rattle.vrx_frames.specs.Run.{Packets, Run, is_passed}
+use Rattle.vrx_frames.specs.Run.{Run, is_passed}
 use Rattle.vrx_core.specs.machine.Asking.{IsMissing}
-use Rattle.vrx_core.specs.machine.GivenUp.{is_lost, lost_by_packet, numbers_left}
-use Rattle.vrx_core.specs.machine.Machine.{Snapshot, latest, opening, last_pulled, next_run, settled, after_datagram, after_pull, after_tick, snapshots, with_numbers}
-use Rattle.vrx_core.specs.machine.Request.{first_requests, is_old, lost_by_tick, missing, repeated_requests, requests}
+use Rattle.vrx_core.specs.machine.GivenUp.{is_lost, numbers_left}
+use Rattle.vrx_core.specs.machine.Machine.{Snapshot, latest, opening, next_run, settled, after_datagram, after_pull, after_tick, snapshots}
+use Rattle.vrx_core.specs.machine.Request.{is_old, missing, requests}
 use Rattle.vrx_core.specs.machine.Snapshot.{moved}
 use Rattle.vrx_core.specs.machine.Verdict.{verdict}
 use Rattle.vrx_core.specs.declared.settings.Settings.{Settings}
@@ -21,9 +21,9 @@ use Rattle.vrx_core.specs.declared.original.NotTaken.{NotTaken}
 use Rattle.vrx_core.proofs.machine.AvailableLemmas.{placed_new, placed_old, window-order, order-window}
 use Rattle.vrx_core.proofs.machine.VerdictLemmas.{IsFresh, verdict-taken, fresh-is}
 use Rattle.vrx_core.proofs.relation.ListLemmas.{filter-from}
-use Rattle.vrx_core.proofs.relation.WindowLemmas.{among-filter, inside-order}
+use Rattle.vrx_core.proofs.relation.WindowLemmas.{among-filter}
 use Rattle.vrx_core.proofs.asking.MissingLemmas.{missing-from}
-use Rattle.vrx_core.proofs.asking.RangeLemmas.{Leaves, among-from, among-not, among-withs, left-from}
+use Rattle.vrx_core.proofs.asking.RangeLemmas.{Leaves, among-from, among-withs, left-from}
 
 -- a number was asked for, by an event so far
 abbrev pub was_asked : List Snapshot → ℕ → Bool
@@ -216,6 +216,7 @@ module _ (codec : Meaning) (past : List Snapshot) (moment n : ℕ) (content : Co
         let upto : new_newest ≡ p.0 = p.2 in
         ap (λ j. is_available j (placed_in new_newest n content (latest past).window.packets)) e
         ∙ ap is_some (placed_old new_newest n p.0 content c.0 (latest past).window.packets (λ same. absurd (omega (arith, same, less))) (order-window new_newest p.0 (omega (arith, upto)) (omega (arith, upto))) c.1)
+
 -- so it is after a datagram
 sane-datagram : (settings : Settings) (codec : Meaning) (past : List Snapshot) (moment : ℕ) (octets : List ℕ) (v : Result (ℕ × Content) NotTaken) → verdict settings codec (latest past).window octets ≡ v → IsSane past → IsSane (after_datagram codec past moment v ∷ past)
 sane-datagram settings codec past moment octets (Err left) is sane = sane-still (moved (latest past) moment) past refl refl refl sane

@@ -1,8 +1,7 @@
 -- What is missing, asked for and given up once a datagram is taken.
-use Rattle.std.proofs.Common.{◌≡◌, ◌≢◌, ℕ, zero, suc, ◌+◌, ◌-◌, ◌<◌, ◌≤◌, ◌⊎◌, max, Bool, true, false, cond, not, ◌&&◌, ◌||◌, ◌==◌, List, [], ◌∷◌, ◌++◌, map, length, filter, Contains, Option, Some, None, is_some, IsSomeAnd, unwrap_or, Ok, refl, sym, ◌∙◌, ap, subst, arith, inl, inr, nat_lt, nat_le, nat_cmp}
-use Rattle.std.specs.List.{AllByRecursion}
+use Rattle.std.proofs.Common.{◌≡◌, ℕ, ◌+◌, ◌-◌, ◌<◌, ◌≤◌, ◌⊎◌, max, Bool, true, false, cond, not, ◌&&◌, ◌==◌, List, [], ◌∷◌, ◌++◌, map, length, filter, Contains, Option, Some, None, is_some, IsSomeAnd, unwrap_or, Ok, refl, sym, ◌∙◌, ap, subst, arith, inl, inr, nat_lt, nat_le, nat_cmp}
 use Rattle.std.specs.Ordering.{eq_by_cmp}
-use Rattle.std.proofs.lemmas.Bool.{and_parts, cases_lt, cases_eq, cases_Bool, eq-eqb, eqb-true, eqb-false, ne_eqb, false_from_ne_true, leb-true, lt-ltb, ltb-true, not-true, not_from_false, true≢false}
+use Rattle.std.proofs.lemmas.Bool.{and_parts, cases_lt, cases_eq, eqb-true, eqb-false, ne_eqb, false_from_ne_true, leb-true, lt-ltb, ltb-true, not-true, not_from_false, true≢false}
 use Rattle.std.proofs.lemmas.List.{map-append}
 use Rattle.vrx_num.specs.declared.limits.TheConstants.{WINDOW}
 use Rattle.vrx_asks.specs.Asks.{beyond, without}
@@ -17,12 +16,12 @@ use Rattle.vrx_core.specs.machine.Asking.{IsMissing}
 use Rattle.vrx_core.specs.machine.Available.{IsInWindow}
 use Rattle.vrx_core.specs.machine.GivenUp.{is_lost, numbers_left}
 use Rattle.vrx_core.specs.machine.Machine.{Snapshot, latest, settled, after_datagram}
-use Rattle.vrx_core.specs.machine.Request.{first_requests, missing, requests}
+use Rattle.vrx_core.specs.machine.Request.{missing, requests}
 use Rattle.vrx_core.specs.machine.Snapshot.{moved}
 use Rattle.vrx_core.specs.relation.StandsFor.{ask_of}
 use Rattle.vrx_core.proofs.machine.AvailableLemmas.{find-placed, placed_new, placed_old, order-window}
 use Rattle.vrx_core.proofs.machine.KeyLemmas.{same_key}
-use Rattle.vrx_core.proofs.relation.ListLemmas.{Rises, Contains-head, Contains-tail, Contains-either, Contains-empty, all-of, all-in, filter-from, filter-to, filter-same, rises-filter, same-lists}
+use Rattle.vrx_core.proofs.relation.ListLemmas.{Rises, Contains-head, Contains-tail, all-of, all-in, filter-from, filter-to, filter-same, rises-filter, same-lists}
 use Rattle.vrx_core.proofs.asking.AskLemmas.{WasCounted, all-missing, ask-is, ask_from, beyond-front, beyond-number, first_ask, requests-more, requests-never, requests-none, without-number}
 use Rattle.vrx_core.proofs.asking.MissingLemmas.{missing-from, missing-rises, missing-to}
 use Rattle.vrx_core.proofs.asking.RangeLemmas.{Leaves, among-from, among-to, append-from, append-left, append-right, below-bounds, below-rises, below-to, left-from, map-same}

@@ -1,6 +1,6 @@
--- What an engine keeps of the requests, event by event: the missing numbers with their requests, and the greatest number
--- given up, are those of the machine's past.
-use Rattle.std.proofs.Common.{◌≡◌, ℕ, zero, suc, ◌+◌, ◌-◌, ◌<◌, ◌≤◌, max, Bool, true, false, cond, not, ◌&&◌, ◌||◌, ◌==◌, List, [], ◌∷◌, ◌++◌, map, length, filter, Contains, Option, Some, None, Ok, refl, sym, ◌∙◌, ap, subst, arith, nat_lt, nat_le}
+-- What an engine keeps of the requests, event by event: the missing numbers with their requests, and the greatest
+-- number given up, are those of the machine's past.
+use Rattle.std.proofs.Common.{◌≡◌, ℕ, suc, ◌+◌, ◌-◌, max, Bool, true, false, cond, not, ◌&&◌, ◌||◌, ◌==◌, List, [], ◌∷◌, map, length, filter, Contains, Option, Some, None, Ok, refl, sym, ◌∙◌, ap, subst, arith, nat_lt}
 use Rattle.std.proofs.lemmas.Bool.{true≢false}
 use Rattle.std.proofs.lemmas.Option.{none-some}
 use Rattle.vrx_num.specs.declared.limits.TheConstants.{MOST_REQUESTS, WINDOW}
@@ -222,7 +222,7 @@ module _ (settings : Settings) (codec : Meaning) (h : List Event) (moment n : �
         ∙ gap-is-asked codec past moment n content (sane settings codec h) (passed-same settings codec h moment n content) (passed-below settings codec h) (available-within settings codec h) (counted-of past asks is sound)
 
   module _ (lost_is : arrival.lost ≡ greatest_of (filter (λ m. not (is_passed (latest (snapshots settings codec h)).front m) && not (is_dead m (latest (snapshots settings codec h)).window.dead))
-        (numbers_left (latest (snapshots settings codec h)).window.first (latest (snapshots settings codec h)).window.newest (Some (newest_with (latest (snapshots settings codec h)).window.newest n))))) where
+      (numbers_left (latest (snapshots settings codec h)).window.first (latest (snapshots settings codec h)).window.newest (Some (newest_with (latest (snapshots settings codec h)).window.newest n))))) where
     -- the greatest number that it gives up
     pub lost-arrived : arrival.lost ≡ greatest_of (after_datagram codec (snapshots settings codec h) moment (Ok (n, content))).lost
     lost-arrived = lost_is ∙ ap greatest_of (lost-is codec past moment n content (sane settings codec h) (passed-same settings codec h moment n content) (passed-below settings codec h) (available-within settings codec h))
