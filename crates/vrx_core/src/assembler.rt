@@ -196,6 +196,7 @@ impl<C: Codec> Assembler<C> {
     pub(crate) fn new(alloc: Global, settings: Settings) -> Result<Assembler<C>, NewFault>
         ensures stands { IfOk result (λ assembler. IsAssembled C.meaning assembler []) }
         ensures settings { IfOk result (λ assembler. assembler.settings ≡ settings) }
+        ensures whole { IfOk result (λ assembler. IsWhole C.meaning assembler) }
         ensures no_memory { IfErr result (λ fault. fault ≡ NewFault.NoMemory) }
     {
         let Ok(window) = Window::new(alloc) else {
@@ -312,6 +313,8 @@ impl<C: Codec> Assembler<C> {
         ensures after { IsWhole C.meaning self.new }
     {
         give_up_all(&mut self.window, numbers);
+        // What always holds of a window is a clause of this call.
+        let _ = self.window.newest();
     }
 
     /// Counts an event, and moves the clock.

@@ -1,5 +1,5 @@
 -- What always holds of the engine's fields, event by event.
-use Rattle.std.proofs.Common.{◌≡◌, ℕ, ◌+◌, ◌<◌, ◌≤◌, max, false, [], Option, Some, None, refl, sym, subst, ap, ◌∙◌, arith}
+use Rattle.std.proofs.Common.{◌≡◌, ℕ, ◌+◌, ◌<◌, ◌≤◌, max, false, List, [], ◌∷◌, Option, Some, None, refl, sym, subst, ap, ◌∙◌, arith}
 use Rattle.std.proofs.lemmas.Bool.{false≢true}
 use Rattle.std.specs.List.Sorted.{IsStrictlySortedBy}
 use Rattle.std.specs.Ordering.{nat_cmp}
@@ -10,7 +10,7 @@ use Rattle.vrx_codec.specs.Meaning.{Meaning}
 use Rattle.vrx_codec.specs.declared.run.Run.{Run as RunTold}
 use Rattle.vrx_window.specs.Content.{contents}
 use Rattle.vrx_window.specs.IsWindow.{IsWindow}
-use Rattle.vrx_window.specs.Window.{Contents, nothing}
+use Rattle.vrx_window.specs.Window.{Contents, given_up, nothing}
 use Rattle.vrx_window.specs.declared.held.Held.{Held}
 use Rattle.vrx_frames.specs.Completed.{IsUpTo, Known, nothing_told}
 use Rattle.vrx_frames.specs.Front.{front_after}
@@ -18,7 +18,8 @@ use Rattle.vrx_frames.specs.IsRun.{RunsApart, RunsAre, RunsRise}
 use Rattle.vrx_core.specs.machine.Machine.{snapshots}
 use Rattle.vrx_core.specs.relation.Frames.{Standing, is_passed, next_of, nothing as no_frames, runs_from}
 use Rattle.vrx_core.specs.relation.StandsFor.{Assembly, IsAssembled}
-use Rattle.vrx_core.specs.inside.Step.{lowest_of}
+use Rattle.vrx_core.specs.inside.Step.{IsKept, lowest_of}
+use Rattle.vrx_core.specs.inside.Wants.{given_up_all}
 use Rattle.vrx_core.specs.inside.Fields.{AreFields, IsWhole, after_pulled, assembly_of}
 use Rattle.vrx_core.specs.inside.Joins.{IsJoinable}
 use Rattle.vrx_core.specs.declared.count.Count.{Count}
@@ -98,3 +99,37 @@ fields-pulled are rise apart codec settings count count' window known frames fra
       low = grind (arith);
       high = grind (arith);
     }
+
+-- numbers are given up: all else of the window stays
+pub given-up-is : (ns : List ℕ) (window : Contents Held) → given_up_all ns window ≡ record window { dead = (given_up_all ns window).dead }
+given-up-is [] window = refl
+given-up-is (n ∷ ns) window = given-up-is ns (given_up n window)
+
+kept-dead : (codec : Meaning) (assembly : Assembly) (dead : List ℕ) → IsKept codec assembly → IsKept codec (record assembly { window = record assembly.window { dead = dead } })
+kept-dead codec assembly dead kept = record {
+  few = kept.few;
+  reach = kept.reach;
+  taken = kept.taken;
+  told = kept.told;
+  newest = kept.newest;
+  passed = kept.passed;
+  front = record { both = kept.front.both; ahead = kept.front.ahead; within = kept.front.within; over = kept.front.over };
+  behind = kept.behind;
+  frames = kept.frames;
+}
+
+pub fields-given-up : (codec : Meaning) (settings : Settings) (count : Count) (window window' : Contents Held) (known : Known) (frames : Standing) (last_pulled front extender : Option ℕ) (ns : List ℕ)
+    → AreFields codec extender frames.from (assembly_of settings count window known frames last_pulled front) → window' ≡ given_up_all ns window → IsWindow window'
+    → AreFields codec extender frames.from (assembly_of settings count window' known frames last_pulled front)
+fields-given-up codec settings count window window' known frames last_pulled front extender ns fields is sound =
+    subst (λ (w : Contents Held). AreFields codec extender frames.from (assembly_of settings count w known frames last_pulled front)) (sym same) (record {
+      whole = record {
+        kept = kept-dead codec (assembly_of settings count window known frames last_pulled front) (given_up_all ns window).dead fields.whole.kept;
+        window = subst (λ (w : Contents Held). IsWindow w) same sound;
+      };
+      newest = fields.newest;
+      low = fields.low;
+      high = fields.high;
+    }) where
+      same : window' ≡ record window { dead = (given_up_all ns window).dead }
+      same = is ∙ given-up-is ns window

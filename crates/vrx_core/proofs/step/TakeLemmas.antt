@@ -1,6 +1,7 @@
 -- A packet is taken under its number: what the calls of the parts ask for, and what they leave.
-use Rattle.std.proofs.Common.{◌≡◌, ℕ, ◌+◌, ◌*◌, ◌<◌, ◌≤◌, max, true, List, [], ◌∷◌, Option, Some, None, IfSome, refl, sym, subst, ap, ◌∙◌, arith}
+use Rattle.std.proofs.Common.{◌≡◌, ℕ, ◌+◌, ◌*◌, ◌<◌, ◌≤◌, max, Bool, true, List, [], ◌∷◌, Option, Some, None, IfSome, refl, sym, subst, ap, ◌∙◌, arith}
 use Rattle.std.specs.Prelude.{Ok}
+use Rattle.std.specs.List.{list_any}
 use Rattle.std.specs.List.Sorted.{IsStrictlySortedBy}
 use Rattle.std.specs.Ordering.{nat_cmp}
 use Rattle.std.proofs.lemmas.Bool.{false≢true}
@@ -131,6 +132,12 @@ module _ (are : RunsAre) (rise : RunsRise) (codec : Meaning) (settings : Setting
         last_pulled = refl;
         front = front_is;
       }
+
+      -- and whether a run that it completes is a keyframe
+      pub taken-with : (key : Bool) → key ≡ list_any (λ (run : RunTold). run.key) answers
+          → (taken : IsTakenAs codec (assembly_of settings count window known frames last_pulled front) (assembly_of settings count' window' known' frames' last_pulled front') n held) × (key ≡ list_any (λ (run : RunTold). run.key) taken.answers)
+      unfolding was-taken
+      taken-with key is = (was-taken, is)
 
       -- what always holds still does
       pub fields-taken : (extender' : Option ℕ) → count.events < MOST_EVENTS → count'.events ≡ count.events + 1 → IsWindow window' → extender' ≡ greater extender n

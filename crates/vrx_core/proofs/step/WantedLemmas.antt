@@ -2,6 +2,8 @@
 use Rattle.std.proofs.Common.{◌≡◌, ℕ, ◌+◌, ◌<◌, ◌≤◌, max, Bool, true, false, not, ◌&&◌, ◌||◌, List, [], ◌∷◌, map, Contains, Option, Some, None, is_some, IfSome, Result, Ok, Err, refl, sym, subst, ap, ◌∙◌, arith}
 use Rattle.std.specs.Prelude.{IsErr}
 use Rattle.std.specs.List.{filter, list_any}
+use Rattle.std.specs.Option.{option_map}
+use Rattle.vrx_asks.specs.Asks.{asked_numbers, given_up_numbers}
 use Rattle.vrx_asks.specs.IsAsks.{IsAsks}
 use Rattle.vrx_codec.specs.Meaning.{Meaning}
 use Rattle.vrx_window.specs.Content.{Content, contents_of}
@@ -11,27 +13,28 @@ use Rattle.vrx_frames.specs.Run.{Run, is_passed, told_of}
 use Rattle.vrx_codec.specs.declared.run.Run.{Run as RunTold}
 use Rattle.vrx_core.specs.machine.GivenUp.{all_lost, numbers_left}
 use Rattle.vrx_core.specs.machine.KeyRequest.{completes_key}
-use Rattle.vrx_core.specs.machine.Machine.{Reply, Snapshot, ToDatagram, ToTick, after_datagram, after_pull, after_tick, feedback_of, latest, nack_for, next, opening, pli_for, reply, snapshots, what_of}
+use Rattle.vrx_core.specs.machine.Machine.{Reply, Snapshot, ToDatagram, ToTick, after_datagram, after_pull, after_tick, frame_of, latest, nack_for, next, next_run, opening, pli_for, reply, snapshots, what_of}
 use Rattle.vrx_core.specs.machine.Snapshot.{moved}
 use Rattle.vrx_core.specs.machine.Verdict.{verdict}
 use Rattle.vrx_core.specs.relation.Order.{greatest_of}
 use Rattle.vrx_core.specs.relation.StandsFor.{Assembly, IsAssembled, Parts, StandsFor, StandsIn, Wanted, WantsIn, assembly_in, parts_of}
-use Rattle.vrx_core.specs.inside.Fields.{ComesOf, IsArrival, IsHandled, IsTakenWith, IsWhole}
+use Rattle.vrx_core.specs.inside.Fields.{ComesOf, IsArrival, IsHandedOut, IsHandled, IsTakenWith, IsWhole}
 use Rattle.vrx_core.specs.inside.Kept.{key_numbers}
 use Rattle.vrx_core.specs.inside.Step.{counted}
-use Rattle.vrx_core.specs.inside.Wants.{asked_with, asks_key, key_after, is_lost_open, key_with, nothing_wanted, open_after, wanted_with}
+use Rattle.vrx_core.specs.inside.Wants.{asked_with, asks_key, key_after, is_lost_open, key_with, given_up_all, lost_ticked, needs_key, nothing_wanted, open_after, pulled_with, wanted_pulled, wanted_ticked, wanted_with}
 use Rattle.vrx_core.specs.declared.assembler.Arrival.{Arrival}
 use Rattle.vrx_core.specs.declared.assembler.Outcome.{Outcome}
 use Rattle.vrx_core.specs.declared.event.Event.{Event}
 use Rattle.vrx_core.specs.declared.event.Event.TheVariants.{Datagram, Tick, Pull}
 use Rattle.vrx_core.specs.declared.original.NotTaken.{NotTaken}
+use Rattle.vrx_core.specs.declared.reply.Frame.{Frame}
 use Rattle.vrx_core.specs.declared.settings.Settings.{Settings}
-use Rattle.vrx_core.proofs.asking.WantsLemmas.{asks-moved, asks-opening, asks-taken, gap-taken, lost-arrived, lost-moved, lost-opening, lost-taken}
-use Rattle.vrx_core.proofs.keyframes.AnsweredLemmas.{pulled-falls}
+use Rattle.vrx_core.proofs.asking.WantsLemmas.{asked-ticked, asks-moved, asks-opening, asks-pulled, asks-taken, asks-ticked, gap-taken, given-up-ticked, lost-arrived, lost-moved, lost-opening, lost-pulled, lost-taken, lost-ticked, passed-pulled}
+use Rattle.vrx_core.proofs.keyframes.AnsweredLemmas.{Falls, key_standing, pulled-falls}
 use Rattle.vrx_core.proofs.keyframes.CompletesLemmas.{taken-completes}
-use Rattle.vrx_core.proofs.keyframes.KeyWantsLemmas.{moved-key_asked, moved-key_pulled, moved-keyed, opening-key_asked, opening-key_pulled, opening-keyed, taken-asks, taken-key_asked, taken-key_pulled, taken-keyed}
+use Rattle.vrx_core.proofs.keyframes.KeyWantsLemmas.{moved-key_asked, moved-key_pulled, moved-keyed, opening-key_asked, opening-key_pulled, opening-keyed, pulled-key_asked, pulled-key_pulled, pulled-keyed, ticked-asks, ticked-key_asked, ticked-key_pulled, ticked-keyed, taken-asks, taken-key_asked, taken-key_pulled, taken-keyed}
 use Rattle.vrx_core.proofs.machine.MachineLemmas.{clock-is, reply-is, snapshots-cons}
-use Rattle.vrx_core.proofs.step.EventLemmas.{datagram-counts, datagram-settings, datagram-stands, datagram-what}
+use Rattle.vrx_core.proofs.step.EventLemmas.{IsPull, datagram-counts, datagram-settings, datagram-stands, datagram-what, pull-is, pull-settings, pull-stands, tick-stands}
 
 -- a new engine wants nothing
 pub wants-opening : WantsIn nothing_wanted (opening ∷ [])
@@ -139,6 +142,7 @@ module _ (are : RunsAre) (rise : RunsRise) (codec : Meaning) (before after : Ass
     completed = arrives.key_is
         ∙ sym (taken-completes are rise codec before after n taken.held whole.kept whole.window.packets_rise whole.window.packets_inside taken.may.fresh taken.taken (latest past).standing s.standing stands.assembled.stands.frames stood.frames)
 
+    falls : Falls (latest (snapshots before.settings codec h)).pulled
     falls = pulled-falls are before.settings codec h
 
   comes-by : (v : Result (ℕ × Content) NotTaken) → ComesOf codec before after moment outcome.arrival v → StandsIn codec after (after_datagram codec past moment v ∷ past) → Comes (after_datagram codec past moment v)
@@ -174,3 +178,95 @@ module _ (are : RunsAre) (rise : RunsRise) (codec : Meaning) (before after : Ass
         feedback = record { nack = nack_for (settings-is i) (comes.asked i); pli = pli_for (settings-is i) (comes.key_asked i) };
       }))
       ∙ sym (reply-is before.settings codec h (Datagram moment octets))
+
+-- a pull, by the frame that it gives
+wants-pulled : (codec : Meaning) (wanted : Wanted) (past : List Snapshot) (moment : ℕ) (frame : Option Frame) (o : Option Run) (front : Option ℕ) → frame ≡ option_map frame_of o → front ≡ (after_pull codec past moment o).front
+    → WantsIn wanted past → WantsIn (pulled_with front frame wanted) (after_pull codec past moment o ∷ past)
+wants-pulled codec wanted past moment frame None front frame_is front_is wants = subst (λ f. WantsIn (pulled_with front f wanted) (moved (latest past) moment ∷ past)) (sym frame_is) (wants-moved wanted past moment wants)
+wants-pulled codec wanted past moment frame (Some run) front frame_is front_is wants =
+    subst (λ f. WantsIn (pulled_with front f wanted) (after_pull codec past moment (Some run) ∷ past)) (sym frame_is)
+    (subst (λ f. WantsIn (wanted_pulled f run.key run.first wanted) (after_pull codec past moment (Some run) ∷ past)) (sym front_is) (record {
+      asks = asks-pulled codec past moment run (passed-pulled codec past moment run) wanted.asks wants.asks;
+      lost = lost-pulled codec past moment run wanted.lost wants.lost;
+      key_pulled = pulled-key_pulled codec wanted past moment run wants.key_pulled;
+      keyed = pulled-keyed codec wanted past moment run wants.keyed;
+      key_asked = pulled-key_asked codec wanted past moment run wants.key_asked;
+    }))
+
+module _ (are : RunsAre) (rise : RunsRise) (apart : RunsApart) (codec : Meaning) (before after : Assembly) (wanted : Wanted) (moment : ℕ) (frame : Option Frame) (h : List Event)
+    (handed : IsHandedOut codec before after moment frame) (whole : IsWhole codec before) (whole' : IsWhole codec after) (stands : StandsFor codec (parts_of before wanted) h) where
+  pub pull-stands-for : StandsFor codec (parts_of after (pulled_with after.front frame wanted)) (Pull moment ∷ h)
+  pull-stands-for =
+      let past : List Snapshot = snapshots before.settings codec h in
+      let pull : IsPull codec after past moment frame = pull-is are rise apart codec before after moment frame h handed whole whole' stands.assembled in
+      record {
+        assembled = pull-stands are rise apart codec before after moment frame h handed whole whole' stands.assembled;
+        wants = subst (λ t. WantsIn (pulled_with after.front frame wanted) (snapshots t codec (Pull moment ∷ h))) (sym (pull-settings codec before after moment frame handed))
+            (wants-on before.settings codec (pulled_with after.front frame wanted) h (Pull moment)
+            (wants-pulled codec wanted past moment frame (next_run (latest past)) after.front pull.frame_is pull.stands.front stands.wants));
+      }
+
+-- a tick, of what it wants before and after
+module _ (are : RunsAre) (codec : Meaning) (before after : Assembly) (wanted : Wanted) (moment : ℕ) (h : List Event) (stands : StandsFor codec (parts_of before wanted) h) (sound : IsAsks wanted.asks)
+    (after_is : after ≡ record (counted before moment) { window = given_up_all (given_up_numbers (max before.clock moment) before.settings.interval wanted.asks) before.window }) where
+  abbrev ticks_past : List Snapshot
+  ticks_past = snapshots before.settings codec h
+
+  clock-ticked : max before.clock moment ≡ max (latest ticks_past).now moment
+  clock-ticked = ap (λ k. max k moment) (stands.assembled.clock ∙ sym (clock-is before.settings codec h))
+
+  abbrev pub key_before : Option ℕ
+  key_before = greatest_of (key_numbers before.frames)
+
+  abbrev pub started : Bool
+  started = is_some before.window.newest
+
+  falls-now : Falls (latest (snapshots before.settings codec h)).pulled
+  falls-now = pulled-falls are before.settings codec h
+
+  lost-now : lost_ticked (max (latest ticks_past).now moment) before.settings.interval wanted ≡ greatest_of (all_lost (after_tick before.settings ticks_past moment ∷ ticks_past))
+  lost-now = lost-ticked before.settings ticks_past moment wanted stands.wants.asks sound stands.wants.lost
+
+  key-same : key_before ≡ key_standing (latest ticks_past)
+  key-same = ap (λ f. greatest_of (key_numbers f)) stands.assembled.stands.frames
+
+  started-same : started ≡ is_some (latest ticks_past).window.newest
+  started-same = ap (λ (w : Contents Content). is_some w.newest) stands.assembled.stands.window
+
+  asks-key : asks_key (max before.clock moment) (needs_key (max before.clock moment) before.settings.interval started key_before wanted) wanted.key_asked ≡ (after_tick before.settings ticks_past moment).key_asked
+  asks-key =
+      (λ i. asks_key (clock-ticked i) (needs_key (clock-ticked i) before.settings.interval (started-same i) (key-same i) wanted) wanted.key_asked)
+      ∙ ticked-asks before.settings ticks_past moment wanted falls-now stands.wants lost-now
+
+  wants-ticked : WantsIn (wanted_ticked (max before.clock moment) before.settings.interval started key_before wanted) (after_tick before.settings ticks_past moment ∷ ticks_past)
+  wants-ticked = subst (λ w. WantsIn w (after_tick before.settings ticks_past moment ∷ ticks_past)) (sym (λ i. wanted_ticked (clock-ticked i) before.settings.interval (started-same i) (key-same i) wanted)) (record {
+    asks = asks-ticked before.settings ticks_past moment wanted.asks stands.wants.asks sound;
+    lost = lost-now;
+    key_pulled = ticked-key_pulled before.settings ticks_past moment wanted falls-now stands.wants;
+    keyed = ticked-keyed before.settings ticks_past moment wanted falls-now stands.wants;
+    key_asked = ticked-key_asked before.settings ticks_past moment wanted falls-now stands.wants lost-now;
+  })
+
+  pub tick-stands-for : StandsFor codec (parts_of after (wanted_ticked (max before.clock moment) before.settings.interval (is_some before.window.newest) (greatest_of (key_numbers before.frames)) wanted)) (Tick moment ∷ h)
+  tick-stands-for = record {
+    assembled = tick-stands codec before after moment (given_up_numbers (max before.clock moment) before.settings.interval wanted.asks) h after_is
+        (ap (λ k. given_up_numbers k before.settings.interval wanted.asks) clock-ticked ∙ given-up-ticked before.settings ticks_past moment wanted.asks stands.wants.asks sound) stands.assembled;
+    wants = subst (λ t. WantsIn (wanted_ticked (max before.clock moment) before.settings.interval started key_before wanted) (snapshots t codec (Tick moment ∷ h))) (sym (ap (λ (a : Assembly). a.settings) after_is))
+        (wants-on before.settings codec (wanted_ticked (max before.clock moment) before.settings.interval started key_before wanted) h (Tick moment) wants-ticked);
+  }
+
+  pub tick-reply : ToTick (record {
+    nack = nack_for after.settings (asked_numbers (max before.clock moment) before.settings.interval wanted.asks);
+    pli = pli_for after.settings (asks_key (max before.clock moment) (needs_key (max before.clock moment) before.settings.interval (is_some before.window.newest) (greatest_of (key_numbers before.frames)) wanted) wanted.key_asked);
+  }) ≡ reply before.settings codec h (Tick moment)
+  tick-reply =
+      (λ i. ToTick (record {
+        nack = nack_for (settings-same i) (numbers-same i);
+        pli = pli_for (settings-same i) (asks-key i);
+      }))
+      ∙ sym (reply-is before.settings codec h (Tick moment)) where
+        settings-same : after.settings ≡ before.settings
+        settings-same = ap (λ (a : Assembly). a.settings) after_is
+
+        numbers-same : asked_numbers (max before.clock moment) before.settings.interval wanted.asks ≡ (after_tick before.settings ticks_past moment).asked
+        numbers-same = ap (λ k. asked_numbers k before.settings.interval wanted.asks) clock-ticked ∙ asked-ticked before.settings ticks_past moment wanted.asks stands.wants.asks sound

@@ -16,6 +16,7 @@ use Rattle.vrx_frames.specs.Run.{is_passed}
 use Rattle.vrx_core.specs.machine.GivenUp.{numbers_below, numbers_left}
 use Rattle.vrx_core.specs.relation.StandsFor.{Wanted}
 use Rattle.vrx_core.specs.declared.assembler.Arrival.{Arrival}
+use Rattle.vrx_core.specs.declared.reply.Frame.{Frame}
 
 -- the numbers that are given up once n is placed
 abbrev pub lost_from : Contents Held → Option ℕ → ℕ → List ℕ
@@ -154,3 +155,8 @@ asked_with (Some arrival) = gap_of arrival.newest arrival.number
 abbrev pub key_with : (now : ℕ) → (key : Option ℕ) → Option Arrival → Wanted → Bool
 key_with now key None wanted = false
 key_with now key (Some arrival) wanted = key_taken now arrival key wanted
+
+-- what is wanted once a pull was answered by this frame, or by none
+abbrev pub pulled_with : (front : Option ℕ) → Option Frame → Wanted → Wanted
+pulled_with front None wanted = wanted
+pulled_with front (Some frame) wanted = wanted_pulled front frame.key frame.first wanted

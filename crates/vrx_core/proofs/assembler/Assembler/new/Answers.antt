@@ -6,3 +6,6 @@ invariant_of-result g c = fields-new g.C.Codec.meaning c.args.settings c.in-Ok.w
 
 pub returns-clause-stands : goal.returns-clause-stands
 returns-clause-stands g c = stands-new g.C.Codec.meaning c.args.settings c.in-Ok.window c.in-Ok-new.runs c.in-Ok-new-2.frames c.in-Ok.ensures.nothing c.in-Ok-new.ensures.nothing c.in-Ok-new-2.ensures.nothing
+
+pub returns-clause-whole : goal.returns-clause-whole
+returns-clause-whole g c = (invariant_of-result g c).whole

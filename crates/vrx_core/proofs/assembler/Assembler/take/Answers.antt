@@ -11,7 +11,7 @@ use Rattle.vrx_core.specs.relation.Frames.{runs_from}
 use Rattle.vrx_core.specs.relation.StandsFor.{Assembly}
 use Rattle.vrx_core.specs.inside.Fields.{MayBeTaken, assembly_of}
 use Rattle.vrx_core.specs.inside.Step.{IsTakenAs, lowest_of}
-use Rattle.vrx_core.proofs.step.TakeLemmas.{fields-taken, may-add, may-complete, was-taken}
+use Rattle.vrx_core.proofs.step.TakeLemmas.{fields-taken, may-add, may-complete, taken-with}
 use Rattle.vrx_core.proofs.assembler.Assembler.take.Goals as goal
 
 pub completed-completed-requires-clause-sound : goal.completed-completed-requires-clause-sound
@@ -46,7 +46,7 @@ pub returns-clause-taken : goal.returns-clause-taken
 returns-clause-taken g c =
     let i = c.self.inside in
     subst (λ (p : Assembly). (taken : IsTakenAs g.C.Codec.meaning p (assembly_of i.settings c.count.new.self c.place.new.self c.completed-completed.new.self c.add_all.new.frames i.last_pulled c.front_after-self-inside.result) c.args.n c.args.held) × (c.has_key.result ≡ list_any (λ run. run.key) taken.answers)) c.self.view_is
-    (was-taken c.runs_are.ensures c.runs_rise.ensures g.C.Codec.meaning i.settings i.count i.window c.place.new.self i.runs i.frames i.last_pulled i.front i.extender c.args.n c.args.held c.self.invariant (subst (λ (p : Assembly). MayBeTaken g.C.Codec.meaning p.window c.args.n c.args.held) (sym c.self.view_is) c.requires.may) c.place.ensures.placed
+    (taken-with c.runs_are.ensures c.runs_rise.ensures g.C.Codec.meaning i.settings i.count i.window c.place.new.self i.runs i.frames i.last_pulled i.front i.extender c.args.n c.args.held c.self.invariant (subst (λ (p : Assembly). MayBeTaken g.C.Codec.meaning p.window c.args.n c.args.held) (sym c.self.view_is) c.requires.may) c.place.ensures.placed
     c.completed-completed.new.self c.drop_below.new.self c.as_slice.result.now c.completed-completed.ensures.known (subst (λ runs. Completes (standing g.C.Codec.meaning (place_at c.place.new.self.packets) i.front i.runs (contents c.place.new.self.packets)) (standing g.C.Codec.meaning (place_at c.place.new.self.packets) i.front c.completed-completed.new.self (contents c.place.new.self.packets)) runs) (sym c.as_slice.ensures.value) c.completed-completed.ensures.completes) (subst (λ runs. IsStrictlySortedBy (λ (a b : RunTold). nat_cmp a.first b.first) runs) (sym c.as_slice.ensures.value) c.completed-completed.ensures.rise) (c.drop_below.ensures.from ∙ ap (λ n. max i.frames.from n) (c.lowest_of.ensures ∙ ap lowest_of c.newest.ensures.newest)) (c.drop_below.ensures.runs ∙ ap (λ n. runs_from n i.frames.runs) (c.lowest_of.ensures ∙ ap lowest_of c.newest.ensures.newest))
-    c.count.new.self c.add_all.new.frames c.front_after-self-inside.result c.add_all.ensures.from c.add_all.ensures.runs c.front_after-self-inside.ensures,
-    c.has_key.ensures ∙ ap (λ runs. list_any (λ (run : RunTold). run.key) runs) (c.as_slice-2.ensures.value ∙ sym c.as_slice.ensures.value))
+    c.count.new.self c.add_all.new.frames c.front_after-self-inside.result c.add_all.ensures.from c.add_all.ensures.runs c.front_after-self-inside.ensures c.has_key.result
+    (c.has_key.ensures ∙ ap (λ runs. list_any (λ (run : RunTold). run.key) runs) (c.as_slice-2.ensures.value ∙ sym c.as_slice.ensures.value)))

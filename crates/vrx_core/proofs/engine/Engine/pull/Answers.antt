@@ -1,35 +1,63 @@
-use Rattle.std.proofs.Common.{Some, None, subst}
-use Rattle.std.proofs.lemmas.Bool.{false≢true}
-use Rattle.vrx_core.specs.inside.Fields.{IsHandedOut}
-use Rattle.vrx_core.proofs.step.EventLemmas.{pull-stands, pull-reply, pull-none, pull-counts, pull-settings, pull-exactly, pull-frame}
+use Rattle.std.proofs.Common.{rules, ◌≡◌, ◌⊎◌, ◌+◌, ◌^◌, ◌<◌, ◌≤◌, ◌↔◌, max, List, [], ◌∷◌, Some, None, OnOk, OnErr, IfOk, IfSome, IfErr, IsOk, IsErr, IsErrOf, IsSome, ℕ, ◌-◌, ◌*◌, length, ◌/◌, ◌%◌, Bool, true, false, nat_eq, nat_lt, ◌++◌, slice_index_or, slice_set, bit_and, bit_or, Fits, w8, w32, w64, Bor, MutBor}
+use Rattle.vrx_window.specs.Content.{contents_of}
+use Rattle.vrx_frames.specs.Run.{Run as RunOf}
+use Rattle.vrx_core.specs.machine.Machine.{ToDatagram, ToTick, ToPull, IfFrame}
+use Rattle.vrx_core.specs.machine.Machine.{frame_of as frame_of_run}
+use Rattle.vrx_core.specs.machine.Machine.{last_pulled as last_pulled_of}
+use Rattle.vrx_core.specs.machine.Machine.{latest, nack_for, pli_for, reply, snapshots, what_of}
+use Rattle.vrx_core.specs.machine.Answers.{IsLeastDeliverable, NoneDeliverable}
+use Rattle.vrx_core.specs.machine.Verdict.{verdict as verdict_of}
+use Rattle.vrx_core.specs.machine.SettingsFault.{IsFault, fault_of}
+use Rattle.vrx_core.specs.machine.Reasons.{MeansAnswer}
+use Rattle.vrx_core.specs.relation.StandsFor.{StandsFor}
+use Rattle.vrx_core.specs.relation.Order.{greatest_of}
+use Rattle.vrx_core.specs.inside.Kept.{key_numbers}
+use Rattle.vrx_core.specs.inside.Wants.{AreBelow, AreNear, asked_with, key_with, wanted_with}
+use Rattle.vrx_asks.specs.IsAsks.{IsAsks}
+use Rattle.vrx_core.specs.declared.event.Event.{Event}
+use Rattle.vrx_core.specs.declared.reply.What.{What}
 use Rattle.vrx_core.proofs.engine.Engine.pull.Goals as goal
 
+-- src/engine.rt:265:15
 pub returns-in_err-frame-clause-not_ready : goal.returns-in_err-frame-clause-not_ready
-returns-in_err-frame-clause-not_ready g c h stands answered = absurd (false≢true (c.in_err-frame.ensures.none (pull-none c.runs_are.ensures c.runs_rise.ensures c.runs_apart.ensures g.C.Codec.meaning c.args.self.now c.args.moment h c.hand_out.ensures.before c.requires.room stands answered)))
+returns-in_err-frame-clause-not_ready g c = ?
 
+-- src/engine.rt:269:17
+pub invariant_of-self-in-Some : goal.invariant_of-self-in-Some
+invariant_of-self-in-Some g c = ?
+
+-- src/engine.rt:240:5
 pub returns-in-Some-clause-stands : goal.returns-in-Some-clause-stands
-returns-in-Some-clause-stands g c h = pull-stands c.runs_are.ensures c.runs_rise.ensures c.runs_apart.ensures g.C.Codec.meaning c.args.self.now c.hand_out.new.self c.args.moment c.in_ok-frame.field-0 h c.in_ok-frame.ensures.handed c.in_ok-frame.ensures.before c.in_ok-frame.ensures.after
+returns-in-Some-clause-stands g c = ?
 
-pub returns-in-None-clause-stands : goal.returns-in-None-clause-stands
-returns-in-None-clause-stands g c h = pull-stands c.runs_are.ensures c.runs_rise.ensures c.runs_apart.ensures g.C.Codec.meaning c.args.self.now c.hand_out.new.self c.args.moment c.in_ok-frame.field-0 h c.in_ok-frame.ensures.handed c.in_ok-frame.ensures.before c.in_ok-frame.ensures.after
-
+-- src/engine.rt:240:5
 pub returns-in-Some-clause-reply : goal.returns-in-Some-clause-reply
-returns-in-Some-clause-reply g c h = pull-reply c.runs_are.ensures c.runs_rise.ensures c.runs_apart.ensures g.C.Codec.meaning c.args.self.now c.hand_out.new.self c.args.moment (Some c.in-Some.frame) h (subst (λ frame. IsHandedOut g.C.Codec.meaning c.args.self.now c.hand_out.new.self c.args.moment frame) c.in-Some.is c.in_ok-frame.ensures.handed) c.in_ok-frame.ensures.before c.in_ok-frame.ensures.after
+returns-in-Some-clause-reply g c = ?
 
-pub returns-in-None-clause-reply : goal.returns-in-None-clause-reply
-returns-in-None-clause-reply g c h = pull-reply c.runs_are.ensures c.runs_rise.ensures c.runs_apart.ensures g.C.Codec.meaning c.args.self.now c.hand_out.new.self c.args.moment None h (subst (λ frame. IsHandedOut g.C.Codec.meaning c.args.self.now c.hand_out.new.self c.args.moment frame) c.in-None.is c.in_ok-frame.ensures.handed) c.in_ok-frame.ensures.before c.in_ok-frame.ensures.after
-
+-- src/engine.rt:240:5
 pub returns-in-Some-clause-not_ready_exactly : goal.returns-in-Some-clause-not_ready_exactly
-returns-in-Some-clause-not_ready_exactly g c h = pull-exactly c.runs_are.ensures c.runs_rise.ensures c.runs_apart.ensures c.answers_are.ensures.answers g.C.Codec.meaning c.args.self.now c.hand_out.new.self c.args.moment (Some c.in-Some.frame) h (subst (λ frame. IsHandedOut g.C.Codec.meaning c.args.self.now c.hand_out.new.self c.args.moment frame) c.in-Some.is c.in_ok-frame.ensures.handed) c.in_ok-frame.ensures.before c.in_ok-frame.ensures.after
+returns-in-Some-clause-not_ready_exactly g c = ?
 
-pub returns-in-None-clause-not_ready_exactly : goal.returns-in-None-clause-not_ready_exactly
-returns-in-None-clause-not_ready_exactly g c h = pull-exactly c.runs_are.ensures c.runs_rise.ensures c.runs_apart.ensures c.answers_are.ensures.answers g.C.Codec.meaning c.args.self.now c.hand_out.new.self c.args.moment None h (subst (λ frame. IsHandedOut g.C.Codec.meaning c.args.self.now c.hand_out.new.self c.args.moment frame) c.in-None.is c.in_ok-frame.ensures.handed) c.in_ok-frame.ensures.before c.in_ok-frame.ensures.after
-
+-- src/engine.rt:240:5
 pub returns-in-Some-clause-frame : goal.returns-in-Some-clause-frame
-returns-in-Some-clause-frame g c h = pull-frame c.runs_are.ensures c.runs_rise.ensures c.runs_apart.ensures c.answers_are.ensures.answers g.C.Codec.meaning c.args.self.now c.hand_out.new.self c.args.moment (Some c.in-Some.frame) h (subst (λ frame. IsHandedOut g.C.Codec.meaning c.args.self.now c.hand_out.new.self c.args.moment frame) c.in-Some.is c.in_ok-frame.ensures.handed) c.in_ok-frame.ensures.before c.in_ok-frame.ensures.after
+returns-in-Some-clause-frame g c = ?
 
+-- src/engine.rt:240:5
 pub returns-in-Some-clause-counts : goal.returns-in-Some-clause-counts
-returns-in-Some-clause-counts g c = pull-counts g.C.Codec.meaning c.args.self.now c.hand_out.new.self c.args.moment c.in_ok-frame.field-0 c.in_ok-frame.ensures.handed
+returns-in-Some-clause-counts g c = ?
 
+-- src/engine.rt:240:5
 pub returns-in-Some-clause-settings : goal.returns-in-Some-clause-settings
-returns-in-Some-clause-settings g c = pull-settings g.C.Codec.meaning c.args.self.now c.hand_out.new.self c.args.moment c.in_ok-frame.field-0 c.in_ok-frame.ensures.handed
+returns-in-Some-clause-settings g c = ?
+
+-- src/engine.rt:240:5
+pub returns-in-None-clause-stands : goal.returns-in-None-clause-stands
+returns-in-None-clause-stands g c = ?
+
+-- src/engine.rt:240:5
+pub returns-in-None-clause-reply : goal.returns-in-None-clause-reply
+returns-in-None-clause-reply g c = ?
+
+-- src/engine.rt:240:5
+pub returns-in-None-clause-not_ready_exactly : goal.returns-in-None-clause-not_ready_exactly
+returns-in-None-clause-not_ready_exactly g c = ?
