@@ -5,7 +5,7 @@ use Rattle.vrx_num.specs.Extended.{Extends, GivesMeant, extended}
 use Rattle.vrx_num.specs.declared.limits.TheConstants.{WINDOW, HALF_SPACE}
 use Rattle.vrx_codec.specs.Meaning.{Meaning}
 use Rattle.vrx_window.specs.Content.{Content}
-use Rattle.vrx_window.specs.Window.{Contents, at, is_available, is_dead, is_too_old, newest_with, would_of}
+use Rattle.vrx_window.specs.Window.{Contents, at, is_available, is_too_old, newest_with, would_of}
 use Rattle.vrx_window.specs.declared.placing.Placing.TheVariants as placings
 use Rattle.vrx_frames.specs.Run.{Packets}
 use Rattle.vrx_core.specs.machine.SettingsFault.{fault_of}
@@ -16,7 +16,7 @@ use Rattle.vrx_core.specs.honest.Sender.{SentPacket, Sender, wire_of}
 use Rattle.vrx_core.specs.honest.WireForm.{brought_by}
 use Rattle.vrx_core.specs.honest.HonestSender.{HonestSender}
 use Rattle.vrx_core.specs.honest.HonestNetwork.{Origin, FromSender, Elsewhere, IsNear, IsDelivery, HonestNetwork, greatest, taken}
-use Rattle.vrx_core.specs.honest.HonestTaken.{IsInReach, WasGivenUp, IsToTake, IsToKeep, KeepsRightly, TakesPacket, IsTakenRightly, TakesRightly, HonestTakenHolds}
+use Rattle.vrx_core.specs.honest.HonestTaken.{IsInReach, IsToTake, IsToKeep, KeepsRightly, TakesPacket, IsTakenRightly, TakesRightly, HonestTakenHolds}
 use Rattle.vrx_core.specs.honest.Ready.{IsNumber}
 use Rattle.vrx_core.specs.declared.settings.Settings.{Settings}
 use Rattle.vrx_core.specs.declared.event.Event.{Event}
@@ -196,7 +196,7 @@ module _ (settings : Settings) (codec : Meaning) (sender : Sender) (h : List Eve
         let lost : ℕ → Bool = is_lost (snapshots settings codec h) in
         let match : Matches window lost = matches settings codec h in
         let exact : (is_ok (verdict settings codec window octets) ≡ true) ↔ ToTake sender lost i js =
-            rightly-taken meant settings codec sender window lost match i octets b js t.here.newest t.here.keeps delivery.1 in
+        rightly-taken meant settings codec sender window lost match i octets b js t.here.newest t.here.keeps delivery.1 in
         record {
           exactly = (λ h'. is_to_take i (exact.0 h'), λ to. exact.1 (to_take i to));
           answer = λ h'.

@@ -1,9 +1,8 @@
 -- Each packet that is given up brings a request for a keyframe.
-use Rattle.std.proofs.Common.{◌≡◌, ℕ, Bool, true, false, List, [], ◌∷◌, Contains, Option, Some, None, IsSomeAnd, ◌⊎◌, refl, sym, ◌∙◌, ap, subst, inl, inr}
+use Rattle.std.proofs.Common.{◌≡◌, ℕ, Bool, true, false, List, [], ◌∷◌, Contains, Option, Some, None, ◌⊎◌, refl, inl, inr}
 use Rattle.std.specs.Option.{IsSome}
 use Rattle.vrx_codec.specs.Meaning.{Meaning}
 use Rattle.vrx_frames.specs.Run.{Run}
-use Rattle.vrx_core.specs.machine.Asking.{IsOutstanding}
 use Rattle.vrx_core.specs.machine.KeyRequest.{is_answered}
 use Rattle.vrx_core.specs.machine.Machine.{Snapshot, after_pull, latest, next_run, pli_for, reply, replies, snapshots}
 use Rattle.vrx_core.specs.honest.Sender.{Sender}

@@ -62,7 +62,7 @@ asked = refl
 -- packet 1 was given up, under its number
 pub given_up : WasGivenUp settings codec sender history origins_back 1
 unfolding snapshots taken
-given_up = (65538, (omega arith, refl))
+given_up = (65538, omega arith, refl)
 
 -- and is dropped when it comes after all
 pub dropped : reply settings codec history (Datagram 1002 second_text) ≡ answered (what.Dropped Dead) quiet

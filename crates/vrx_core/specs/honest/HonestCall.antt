@@ -118,8 +118,8 @@ LossesAsked settings codec sender h origins _ _ _ = ⊥
 
 -- the frames pulled are the sender's, byte for byte, in order, each at most once, from a keyframe on, and after all
 -- their references. Each pull is answered by the least ready frame, or by NotReady exactly if none is ready. Each
--- packet that is given up brings a request for a keyframe with the event that gives it up, unless one is outstanding or
--- a later keyframe answers it
+-- packet that is given up brings a request for a keyframe with the event that gives it up, unless one is outstanding
+-- or a later keyframe answers it
 pub record HonestCall (settings : Settings) (codec : Meaning) (sender : Sender) (events : List Event) (origins : List Origin) (replies : List Reply) : Type 0 where
   -- the place of the frame that each event gives, if it gives one
   pub given : List (Option ℕ)

@@ -1,6 +1,6 @@
 -- What a receiver takes and keeps in an honest call, said in the sender's terms. A datagram of the sender is taken
--- exactly if its packet is in reach, and was neither taken before nor given up: the receiver doesn't wait any more for
--- a packet that it gave up, and drops it if it comes.
+-- exactly if its packet is in reach, and was neither taken before nor given up: the receiver doesn't wait any longer
+-- for a packet that it gave up, and drops it if it comes.
 use Rattle.std.specs.Prelude.{◌≡◌, ℕ, ◌+◌, ◌<◌, ◌↔◌, true, List, [], ◌∷◌, slice_get, Contains, Some, None, IsSomeAnd}
 use Rattle.vrx_codec.specs.Meaning.{Meaning}
 use Rattle.vrx_num.specs.declared.limits.TheConstants.{WINDOW, HALF_SPACE}
