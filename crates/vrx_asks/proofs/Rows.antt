@@ -80,11 +80,11 @@ one-due : asked_numbers 100 100 three ≡ 10 ∷ []
 one-due = refl
 
 one-renewed : asks_left 100 100 three ≡ (
-  record { number = 10; times = 2; last = 100 }
-  ∷ record { number = 12; times = 1; last = 5 }
-  ∷ record { number = 13; times = 1; last = 5 }
-  ∷ []
-)
+    record { number = 10; times = 2; last = 100 }
+    ∷ record { number = 12; times = 1; last = 5 }
+    ∷ record { number = 13; times = 1; last = 5 }
+    ∷ []
+    )
 one-renewed = refl
 
 -- a number is noticed above all others, and within 2,046 of the first

@@ -14,8 +14,8 @@ rises (ask ∷ asks) = list_all (λ other. nat_lt ask.number other.number) asks 
 abbrev pub is_counted : Ask → Bool
 is_counted ask = nat_le 1 ask.times && nat_le ask.times MOST_REQUESTS
 
--- The numbers rise, so that none stands twice. Each was asked for once at least, and 10 times at most. Each is at most
--- 2,046 above the first, and so there are at most 2,047.
+-- The numbers rise, so that none stands twice. Each was asked for once at least, and 10 times at most. Each is at
+-- most 2,046 above the first, and so there are at most 2,047.
 pub record IsAsks (asks : List Ask) : Type 0 where
   pub rise : rises asks ≡ true
   pub counted : list_all is_counted asks ≡ true

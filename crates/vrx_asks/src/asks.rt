@@ -51,8 +51,8 @@ impl Asks {
         self.asks.is_empty()
     }
 
-    /// A number is missing, and is asked for at this moment. It is above all that are missing, and at most 2,046 above
-    /// the first of them.
+    /// A number is missing, and is asked for at this moment. It is above all that are missing, and at most 2,046
+    /// above the first of them. It takes no memory.
     pub fn noticed(&mut self, n: u64, now: u64)
         requires above { are_below n self.old ≡ true }
         requires near { is_near n self.old ≡ true }
@@ -68,7 +68,7 @@ impl Asks {
         }
     }
 
-    /// A number isn't missing any more, if it was.
+    /// A number arrived: it isn't missing any more.
     pub fn arrived(&mut self, n: u64)
         ensures arrived { self.new ≡ without n self.old }
     {
@@ -77,7 +77,7 @@ impl Asks {
         }
     }
 
-    /// The numbers up to one aren't missing any more.
+    /// The numbers up to one aren't missing any more. If none of them is, only the first is looked at.
     pub fn passed(&mut self, n: u64)
         ensures passed { self.new ≡ beyond n self.old }
     {
@@ -109,13 +109,13 @@ impl Asks {
 /// The place of a number, if it is missing.
 fn place_of(asks: &[Ask], n: u64) -> Option<usize>
     requires rise { rises asks.now ≡ true }
-    ensures found { IfSome result (λ place. (place < length asks.now) × (remove asks.now place ≡ without n asks.now)) }
+    ensures found { IfSome result (λ at. (at < length asks.now) × (remove asks.now at ≡ without n asks.now)) }
     ensures absent { IfNone result (without n asks.now ≡ asks.now) }
 {
     asks.binary_search_by_key(&n, |ask| ask.number).ok()
 }
 
-/// Whether the first number isn't above n.
+/// Whether the first number isn't above n. If it is, all are.
 fn begins_up_to(asks: &[Ask], n: u64) -> bool
     requires rise { rises asks.now ≡ true }
     ensures kept { OnFalse result (beyond n asks.now ≡ asks.now) }

@@ -29,13 +29,13 @@ impl Due {
         }
     }
 
-    /// What is left of an ask. Its number is put among those to ask for again or those given up, if it is one of them.
+    /// What is left of an ask. Its number goes to those that are asked for again, or given up, if it is one of them.
     pub(crate) fn settle(&mut self, ask: Ask, now: u64, interval: u32) -> Option<Ask>
         requires room_to_ask { array_vec_len self.old.ask < WINDOW }
         requires room_to_give_up { array_vec_len self.old.give_up < WINDOW }
         ensures left { result ≡ (if is_given_up now interval ask then None else Some (ask_after now interval ask)) }
         ensures ask { self.new.ask.items ≡ self.old.ask.items ++ asked_numbers now interval (ask ∷ []) }
-        ensures give_up { self.new.give_up.items ≡ self.old.give_up.items ++ given_up_numbers now interval (ask ∷ []) }
+        ensures gone { self.new.give_up.items ≡ self.old.give_up.items ++ given_up_numbers now interval (ask ∷ []) }
     {
         if !is_due(ask, now, interval) {
             return Some(ask);

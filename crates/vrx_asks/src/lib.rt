@@ -1,4 +1,4 @@
-//! The sequence numbers that a receiver misses, each with how often it was asked for, and the requests for a keyframe.
+//! The sequence numbers that a receiver misses, how often each was asked for, and the requests for a keyframe.
 //!
 //! Numbers are sequence numbers extended beyond their 16 bits (RFC 3550 A.1), and moments are in milliseconds.
 //! [`Asks::due`] says which numbers a generic NACK asks for (RFC 4585 6.2.1) and which are given up, and

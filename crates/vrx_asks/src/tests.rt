@@ -32,7 +32,10 @@ fn asks_ten_times(rt: HostRuntime) -> Result<(), NoMemory> {
         assert_eq!(rt; due.ask.len(), asked, "{now}");
         assert_eq!(rt; due.give_up.len(), given_up, "{now}");
         assert!(rt; due.ask.as_slice().iter().all(|n| *n == 65_538), "{now}");
-        assert!(rt; due.give_up.as_slice().iter().all(|n| *n == 65_538), "{now}");
+        assert!(rt;
+            due.give_up.as_slice().iter().all(|n| *n == 65_538),
+            "{now}"
+        );
     }
     Ok(())
 }

@@ -5,15 +5,15 @@ use Rattle.std.specs.List.{sum_by, filter, flat_map, range_with_len}
 use Rattle.std.specs.List.Sorted.{IsStrictlyIncreasing}
 use Rattle.std.specs.Int.{w16, w32, to_be_bytes, from_be_bytes, bit_at}
 use Rattle.std.proofs.Math.Nat.{pow-suc}
-use Rattle.std.proofs.lemmas.Bool.{cases_lt, cases_eq, ne_eqb, lt-ltb, le-ltb, le-leb, lt-leb}
-use Rattle.std.proofs.lemmas.List.{append-nil, length-append, map-append}
+use Rattle.std.proofs.lemmas.Bool.{cases_lt, cases_eq, lt-ltb, le-ltb, le-leb, lt-leb}
+use Rattle.std.proofs.lemmas.List.{append-nil, map-append}
 use Rattle.std.proofs.lemmas.List.Sums.{sum_by-cons}
 use Rattle.std.proofs.lemmas.Nat.{shr-shr, from_be_bytes-to_be_bytes_2}
 use Rattle.vrx_rtcp.specs.declared.types.TheConstants.{RTPFB, PSFB, FMT_NACK, FMT_PLI, NACK_SPAN}
 use Rattle.vrx_rtcp.specs.Packet.{Message, Nack, Pli, IsPacket}
 use Rattle.vrx_rtcp.specs.Feedback.{nack_octets, pli_octets, later_firsts, firsts, numbers_in_reach, blp_of, item_octets, items_octets, item_numbers, numbers_named}
 use Rattle.vrx_rtcp.specs.Laws.{IsReadAs}
-use Rattle.vrx_rtcp.proofs.FeedbackLemmas.{RisesTo, rises_to, RisesTo-lower, RisesTo-top, in_reach-near, in_reach-beyond, in_reach-far, blp_of-before, blp_of-after, blp_of-below, IsUpTo, IsUpTo-more, IsUpTo-raise}
+use Rattle.vrx_rtcp.proofs.FeedbackLemmas.{RisesTo, rises_to, RisesTo-lower, in_reach-near, in_reach-beyond, in_reach-far, blp_of-before, blp_of-after, blp_of-below, IsUpTo, IsUpTo-more, IsUpTo-raise}
 use Rattle.vrx_rtcp.proofs.PacketLemmas.{Reads, reads-packet}
 
 -- ---- the bits of an item, from one place on

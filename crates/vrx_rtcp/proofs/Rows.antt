@@ -1,5 +1,5 @@
 -- Feedback worked by hand: the definitions on it.
-use Rattle.std.specs.Prelude.{◌≡◌, ℕ, List, [], ◌∷◌, ◌++◌, refl}
+use Rattle.std.specs.Prelude.{◌≡◌, ℕ, List, [], ◌∷◌, refl}
 use Rattle.std.specs.List.{range_with_len}
 use Rattle.vrx_rtcp.specs.Feedback.{nack_octets, pli_octets, items_octets, numbers_named}
 

@@ -20,7 +20,8 @@ use Rattle.vrx_rtcp.specs.Packet.{first_octet}
 -- the numbers that begin an item, after one that begins with first: the next that its BLP doesn't reach, and so on
 abbrev pub later_firsts : ℕ → List ℕ → List ℕ
 later_firsts first [] = []
-later_firsts first (n ∷ numbers) = if nat_le n (first + BLP_BITS) then later_firsts first numbers else n ∷ later_firsts n numbers
+later_firsts first (n ∷ numbers) =
+    if nat_le n (first + BLP_BITS) then later_firsts first numbers else n ∷ later_firsts n numbers
 
 -- the numbers that begin an item: the least, and those after it
 abbrev pub firsts : List ℕ → List ℕ
@@ -48,7 +49,7 @@ abbrev pub feedback_head : ℕ → ℕ → ℕ → ℕ → ℕ → List ℕ
 feedback_head format kind words from media =
     first_octet false format ∷ kind ∷ to_be_bytes w16 words ++ to_be_bytes w32 from ++ to_be_bytes w32 media
 
--- a generic NACK of these numbers
+-- a generic NACK of these numbers, from one SSRC, on the media of another
 abbrev pub nack_octets : ℕ → ℕ → List ℕ → List ℕ
 nack_octets from media numbers =
     feedback_head FMT_NACK RTPFB (2 + length (firsts numbers)) from media ++ items_octets numbers

@@ -1,4 +1,5 @@
-//! Reads RTCP packets, and compounds of them (RFC 3550 6.1 and 6.4 to 6.6, RFC 4585 6.1 to 6.3.1).
+//! Reads RTCP packets and compounds of them, and writes the feedback that a receiver sends (RFC 3550 6.1 and 6.4 to
+//! 6.6, RFC 4585 6.1 to 6.3.1).
 //!
 //! ```text
 //!  0                   1                   2                   3
@@ -15,10 +16,12 @@
 //! [`read_packet`] takes one packet apart: sender and receiver reports, goodbyes, generic NACKs and picture
 //! loss indications; every other one is told only by its type. What it gives lies where the octets lie, and
 //! it takes no memory. [`read_compound`] counts the packets of a datagram. What the report blocks, the reason
-//! of a goodbye and source descriptions say is left to others.
+//! of a goodbye and source descriptions say is left to others. [`nack_of`] writes a generic NACK, and [`pli`] a
+//! picture loss indication.
 //!
-//! `specs/Packet.antt` is the grammar, and `specs/Fault.antt` says when a packet is refused.
-//! [`one_packet`] and [`one_answer`] have the laws, which `specs/Laws.antt` states.
+//! `specs/Packet.antt` is the grammar, and `specs/Fault.antt` says when a packet is refused. `specs/Feedback.antt`
+//! has the octets of feedback. [`one_packet`], [`one_answer`] and [`written_reads`] have the laws, which
+//! `specs/Laws.antt` states.
 #![tactic(auto)]
 
 mod body;

@@ -1,7 +1,10 @@
-ghost use Rattle.std.specs.Prelude.{◌≡◌, ◌+◌, IfOk, length, vec_len};
+ghost use Rattle.std.specs.Prelude.{◌≡◌, ◌+◌, true, IfOk, length, vec_len};
+ghost use Rattle.std.specs.List.Sorted.{IsStrictlyIncreasing};
 
 use super::*;
+use arrayvec::ArrayVec;
 use std::alloc::AllocError;
+use types::NACK_SPAN;
 
 /// The two report blocks of the sender report below (RFC 3550 6.4.1).
 const BLOCKS: [u8; 48] = [
@@ -311,33 +314,87 @@ fn reads_compounds(rt: HostRuntime) -> Result<(), AllocError> {
     Ok(())
 }
 
+/// Whether each number is above the one before it.
+fn rise(numbers: &[u64]) -> bool
+    ensures { result ≡ true → IsStrictlyIncreasing numbers.now }
+{
+    for i in 1..numbers.len() {
+        if numbers[i] <= numbers[i - 1] {
+            return false;
+        }
+    }
+    true
+}
+
+/// The octets of a NACK from 11, on the media 10, if one NACK takes the numbers.
+fn written(numbers: &[u64]) -> Option<ArrayVec<u8, 496>> {
+    if numbers.is_empty() || !rise(numbers) {
+        return None;
+    }
+    if numbers[numbers.len() - 1].saturating_sub(numbers[0]) > NACK_SPAN {
+        return None;
+    }
+    Some(nack_of(11, 10, numbers))
+}
+
 #[test]
 fn writes_feedback(rt: HostRuntime) {
-    // worked by hand from the figures of RFC 4585 6.2.1: from 11, on the media 10
+    // the octets after the length and the SSRCs, worked by hand from the figure of RFC 4585 6.2.1
     let cases: [(&[u64], &[u8]); 7] = [
-        (&[65_536], &[0x81, 0xcd, 0, 3, 0, 0, 0, 11, 0, 0, 0, 10, 0, 0, 0, 0]),
-        (&[65_538], &[0x81, 0xcd, 0, 3, 0, 0, 0, 11, 0, 0, 0, 10, 0, 2, 0, 0]),
-        (&[65_538, 65_539], &[0x81, 0xcd, 0, 3, 0, 0, 0, 11, 0, 0, 0, 10, 0, 2, 0, 1]),
-        (&[65_538, 65_540], &[0x81, 0xcd, 0, 3, 0, 0, 0, 11, 0, 0, 0, 10, 0, 2, 0, 2]),
+        (&[65_536], &[0, 0, 0, 0]),
+        (&[65_538], &[0, 2, 0, 0]),
+        (&[65_538, 65_539], &[0, 2, 0, 1]),
+        (&[65_538, 65_540], &[0, 2, 0, 2]),
         // 16 beyond the first, and 17
-        (&[65_538, 65_554], &[0x81, 0xcd, 0, 3, 0, 0, 0, 11, 0, 0, 0, 10, 0, 2, 0x80, 0]),
-        (
-            &[65_538, 65_555],
-            &[0x81, 0xcd, 0, 4, 0, 0, 0, 11, 0, 0, 0, 10, 0, 2, 0, 0, 0, 19, 0, 0],
-        ),
+        (&[65_538, 65_554], &[0, 2, 0x80, 0]),
+        (&[65_538, 65_555], &[0, 2, 0, 0, 0, 19, 0, 0]),
         // over the wrap
-        (&[131_071, 131_072], &[0x81, 0xcd, 0, 3, 0, 0, 0, 11, 0, 0, 0, 10, 255, 255, 0, 1]),
+        (&[131_071, 131_072], &[255, 255, 0, 1]),
     ];
-    for (numbers, octets) in cases {
-        assert_eq!(rt; nack_of(11, 10, numbers).as_slice(), octets, "{numbers:?}");
+    for (numbers, items) in cases {
+        let octets = written(numbers).expect(&rt, "one NACK takes them");
+        let nack = Nack {
+            sender: 11,
+            media: 10,
+            items,
+        };
+        let next = octets.len();
+        assert_eq!(rt;
+            read_packet(&octets, 0),
+            Ok(Packet {
+                body: Body::Nack(nack),
+                next
+            }),
+            "{numbers:?}"
+        );
     }
-    assert_eq!(rt; pli(11, 10), LOSS);
+    let octets = written(&[65_538]).expect(&rt, "one NACK takes it");
+    let want: [u8; 16] = [0x81, 0xcd, 0, 3, 0, 0, 0, 11, 0, 0, 0, 10, 0, 2, 0, 0];
+    assert_eq!(rt; octets.as_slice(), want.as_slice());
     let feedback = Feedback {
-        nack: None,
+        nack: Some(octets),
         pli: Some(pli(11, 10)),
     };
-    assert_eq!(rt; feedback.nack.is_none(), true);
+    assert_eq!(rt; feedback.nack.is_some(), true);
     assert_eq!(rt; feedback.pli, Some(LOSS));
+}
+
+#[test]
+fn writes_the_longest_nack(rt: HostRuntime) -> Result<(), AllocError> {
+    let mut numbers = Vec::new(rt.alloc());
+    for n in 96_257..98_304 {
+        numbers.push(n)?;
+    }
+    let head: [u8; 12] = [0x81, 0xcd, 0, 0x7b, 0, 0, 0, 11, 0, 0, 0, 10];
+    let mut want = Vec::from_slice(rt.alloc(), &head)?;
+    for i in 0..120u16 {
+        let pid = (0x7801 + 17 * i).to_be_bytes();
+        want.extend_from_slice(&[pid[0], pid[1], 0xff, 0xff])?;
+    }
+    want.extend_from_slice(&[0x7f, 0xf9, 0, 0x3f])?;
+    let octets = written(&numbers).expect(&rt, "one NACK takes them");
+    assert_eq!(rt; octets.as_slice(), want.as_slice());
+    Ok(())
 }
 
 #[test]

@@ -1,10 +1,10 @@
 //! From missing numbers to the feedback that asks for them.
 
-ghost use Rattle.std.specs.Prelude.{◌≡◌, ◌+◌, ◌-◌, ◌%◌, ◌<◌, ◌≤◌, false, List, [], ◌∷◌, ◌++◌, length, map, slice_index};
+ghost use Rattle.std.specs.Prelude.{◌≡◌, ◌+◌, ◌-◌, ◌%◌, ◌<◌, ◌≤◌, ◌∷◌, ◌++◌, length, map, slice_index};
 ghost use Rattle.std.specs.List.Sorted.{IsStrictlyIncreasing};
-ghost use Rattle.std.specs.Int.{w16, w32, to_be_bytes};
-ghost use Rattle.vrx_rtcp.specs.declared.types.TheConstants.{NACK_SPAN as MOST_SPAN};
-ghost use Rattle.vrx_rtcp.specs.declared.writing.TheConstants.{MOST_OCTETS as MOST};
+ghost use Rattle.std.specs.Int.{w16, to_be_bytes};
+ghost use Rattle.vrx_rtcp.specs.declared.types.TheConstants.{NACK_SPAN};
+ghost use Rattle.vrx_rtcp.specs.declared.writing.TheConstants.{MOST_ITEMS, MOST_OCTETS};
 ghost use Rattle.arrayvec.specs.ArrayVec.{array_vec_len};
 ghost use Rattle.vrx_rtcp.specs.Feedback.{firsts, feedback_head, nack_octets, pli_octets};
 ghost use Rattle.vrx_rtcp.specs.View.{item_of};
@@ -41,9 +41,9 @@ impl Item {
 /// The items of the numbers: `first`, and those after it.
 fn items_of(first: u64, later: &[u64]) -> ArrayVec<Item, MOST_ITEMS>
     requires rising { IsStrictlyIncreasing (first ∷ later.now) }
-    requires near { slice_index (first ∷ later.now) (length later.now) ≤ first + MOST_SPAN }
+    requires near { slice_index (first ∷ later.now) (length later.now) ≤ first + NACK_SPAN }
     ensures items { result.items ≡ map (item_of (first ∷ later.now)) (firsts (first ∷ later.now)) }
-    ensures few { array_vec_len result ≤ 121 }
+    ensures few { array_vec_len result ≤ MOST_ITEMS }
 {
     let mut items = ArrayVec::new();
     let mut item = Item { first, blp: 0 };
@@ -85,7 +85,7 @@ fn head(format: u8, kind: u8, words: u16, from_ssrc: u32, media_ssrc: u32) -> [u
 
 /// Adds octets after those that are there.
 fn append(octets: &mut ArrayVec<u8, MOST_OCTETS>, more: &[u8])
-    requires room { array_vec_len octets.old + length more.now ≤ MOST }
+    requires room { array_vec_len octets.old + length more.now ≤ MOST_OCTETS }
     ensures { octets.new.items ≡ octets.old.items ++ more.now }
 {
     for octet in more {
@@ -98,13 +98,16 @@ fn append(octets: &mut ArrayVec<u8, MOST_OCTETS>, more: &[u8])
 pub fn nack_of(from_ssrc: u32, media_ssrc: u32, numbers: &[u64]) -> ArrayVec<u8, 496>
     requires some { 1 ≤ length numbers.now }
     requires rising { IsStrictlyIncreasing numbers.now }
-    requires near { slice_index numbers.now (length numbers.now - 1) ≤ slice_index numbers.now 0 + MOST_SPAN }
+    requires near { slice_index numbers.now (length numbers.now - 1) ≤ slice_index numbers.now 0 + NACK_SPAN }
     ensures octets { result.items ≡ nack_octets from_ssrc media_ssrc numbers.now }
 {
     let items = items_of(numbers[0], numbers.split_at(1).1);
     let words = 2 + items.len() as u16;
     let mut octets = ArrayVec::new();
-    append(&mut octets, &head(FMT_NACK, RTPFB, words, from_ssrc, media_ssrc));
+    append(
+        &mut octets,
+        &head(FMT_NACK, RTPFB, words, from_ssrc, media_ssrc),
+    );
     for item in items.as_slice() {
         append(&mut octets, &item.octets());
     }

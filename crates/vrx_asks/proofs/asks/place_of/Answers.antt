@@ -1,8 +1,6 @@
-use Rattle.std.proofs.Common.{rules, sym, subst, ◌≡◌, ◌<◌, length, remove, IfSome, IfNone}
-use Rattle.std.specs.Result.{result_ok}
+use Rattle.std.proofs.Common.{rules, sym, subst}
 use Rattle.std.proofs.lemmas.List.Sorted.{answers_always}
-use Rattle.vrx_asks.specs.Asks.{without}
-use Rattle.vrx_asks.proofs.AsksLemmas.{Finds, searched}
+use Rattle.vrx_asks.proofs.PlaceLemmas.{Finds, searched}
 use Rattle.vrx_asks.proofs.asks.place_of.Goals as goal
 
 -- the closure gives an ask's number

@@ -1,11 +1,11 @@
 -- One number more: its bit in the open item, or an item of its own.
-use Rattle.std.proofs.Common.{◌≡◌, ℕ, ◌+◌, ◌-◌, ◌*◌, ◌%◌, ◌^◌, ◌<◌, ◌≤◌, [], ◌∷◌, ◌++◌, List, length, get_or, drop, refl, sym, ap, subst, ◌∙◌, arith}
+use Rattle.std.proofs.Common.{◌≡◌, ℕ, ◌+◌, ◌-◌, ◌*◌, ◌%◌, ◌^◌, ◌<◌, ◌≤◌, [], ◌∷◌, ◌++◌, List, get_or, drop, sym, subst, ◌∙◌, arith}
 use Rattle.std.proofs.lemmas.List.{drop_more, drop_all}
 use Rattle.std.proofs.lemmas.Nat.{one_shl}
 use Rattle.vrx_rtcp.specs.declared.types.TheConstants.{NACK_SPAN}
 use Rattle.vrx_rtcp.specs.declared.writing.Item.{Item}
 use Rattle.vrx_rtcp.specs.View.{item_of}
-use Rattle.vrx_rtcp.proofs.FeedbackLemmas.{RisesTo, rises_to, Building, later_items, building-begins, building-near, bit_fits, building-beyond, building-ends, building-within, items-are}
+use Rattle.vrx_rtcp.proofs.FeedbackLemmas.{rises_to, Building, later_items, building-begins, building-near, bit_fits, building-beyond, building-ends, building-within, items-are}
 use Rattle.vrx_rtcp.proofs.writing.items_of.Goals as goal
 use Rattle.vrx_rtcp.proofs.writing.items_of.Goals.{then-n-item-le-BLP_BITS, else-n-item-le-BLP_BITS}
 

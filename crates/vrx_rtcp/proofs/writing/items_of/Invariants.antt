@@ -8,4 +8,4 @@ use Rattle.vrx_rtcp.proofs.writing.items_of.Given as goal
 abbrev pub invariant-loop-n : goal.invariant-loop-n
 invariant-loop-n l =
     Building (l.first + NACK_SPAN) l.first (item_of l.later l.first ∷ later_items l.first l.later)
-      l.items.items l.item.first l.item.blp (drop l.n-index l.later)
+    l.items.items l.item.first l.item.blp (drop l.n-index l.later)
