@@ -7,3 +7,4 @@ pub mod TakeLemmas
 pub mod LostLemmas
 pub mod NoticeLemmas
 pub mod GapLemmas
+pub mod FreshLemmas
