@@ -8,3 +8,5 @@ pub mod LostLemmas
 pub mod NoticeLemmas
 pub mod GapLemmas
 pub mod WantedLemmas
+pub mod FreshLemmas
+pub mod ArrivalLemmas

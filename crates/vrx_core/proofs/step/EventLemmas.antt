@@ -120,6 +120,14 @@ pull-counts-by codec before after moment frame (Some told) comes = (comes.4.even
 pub pull-counts : (codec : Meaning) (before after : Assembly) (moment : ℕ) (frame : Option Frame) → IsHandedOut codec before after moment frame → (after.events ≡ before.events + 1) × (after.clock ≡ max before.clock moment)
 pull-counts codec before after moment frame handed = pull-counts-by codec before after moment frame (next_of before.front before.frames) handed
 
+-- a pull leaves the window
+pull-window-by : (codec : Meaning) (before after : Assembly) (moment : ℕ) (frame : Option Frame) (o : Option RunTold) → ComesOfPull codec before after moment frame o → after.window ≡ before.window
+pull-window-by codec before after moment frame None comes = ap (λ (p : Assembly). p.window) comes.1
+pull-window-by codec before after moment frame (Some told) comes = comes.3.window
+
+pub pull-window : (codec : Meaning) (before after : Assembly) (moment : ℕ) (frame : Option Frame) → IsHandedOut codec before after moment frame → after.window ≡ before.window
+pull-window codec before after moment frame handed = pull-window-by codec before after moment frame (next_of before.front before.frames) handed
+
 -- a pull's answer, by the frame that is given
 abbrev pub pulled_by : Option Frame → Pulled
 pulled_by None = pulls.NotReady

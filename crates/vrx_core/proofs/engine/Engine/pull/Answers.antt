@@ -1,4 +1,4 @@
-use Rattle.std.proofs.Common.{◌≡◌, Some, None, sym, subst, ap, ◌∙◌}
+use Rattle.std.proofs.Common.{◌≡◌, ◌<◌, ◌+◌, max, Some, None, sym, subst, ap, ◌∙◌}
 use Rattle.std.specs.Prelude.{◌↔◌, List, ◌∷◌, IsOk}
 use Rattle.std.proofs.lemmas.Bool.{false≢true}
 use Rattle.vrx_frames.specs.Run.{Run as RunOf}
@@ -6,11 +6,14 @@ use Rattle.vrx_core.specs.machine.Answers.{IsLeastDeliverable, NoneDeliverable}
 use Rattle.vrx_core.specs.machine.Machine.{IfFrame, ToPull, frame_of as frame_of_run, last_pulled, latest, reply, snapshots}
 use Rattle.vrx_core.specs.relation.StandsFor.{Parts, StandsFor, Wanted, parts_of}
 use Rattle.vrx_core.specs.inside.Fields.{IsHandedOut, IsSound}
-use Rattle.vrx_core.specs.inside.Wants.{pulled_with, wanted_pulled}
+use Rattle.vrx_core.specs.inside.Wants.{AreFresh, beyond_front, pulled_with, wanted_pulled}
+use Rattle.vrx_window.specs.Window.{Contents}
+use Rattle.vrx_window.specs.declared.held.Held.{Held}
+use Rattle.vrx_num.specs.declared.limits.TheConstants.{MOST_EVENTS}
 use Rattle.vrx_core.specs.declared.event.Event.{Event}
 use Rattle.vrx_core.specs.declared.event.Event.TheVariants.{Pull}
 use Rattle.vrx_core.specs.declared.reply.Pulled.TheVariants as pulls
-use Rattle.vrx_core.proofs.step.EventLemmas.{pull-reply, pull-none, pull-counts, pull-settings, pull-exactly, pull-frame}
+use Rattle.vrx_core.proofs.step.EventLemmas.{pull-reply, pull-none, pull-counts, pull-settings, pull-exactly, pull-frame, pull-window}
 use Rattle.vrx_core.proofs.step.FreshLemmas.{fresh-pulled}
 use Rattle.vrx_core.proofs.step.WantedLemmas.{pull-stands-for}
 use Rattle.vrx_core.proofs.engine.Engine.pull.Goals as goal
@@ -25,7 +28,11 @@ returns-in_err-frame-clause-not_ready g c =
 pub invariant_of-self-in-Some : goal.invariant_of-self-in-Some
 invariant_of-self-in-Some g c = record {
   whole = c.in_ok-frame.ensures.after;
-  fresh = ?;
+  fresh = subst (λ (w : Wanted). AreFresh c.hand_out.new.self.window w.asks)
+      (sym (c.pulled.ensures.wanted))
+      (subst (λ (w : Contents Held). AreFresh w (beyond_front c.front-front.result c.self.inside.requests.asks))
+      (sym (pull-window g.C.Codec.meaning c.self.inside.assembler c.hand_out.new.self c.args.moment c.in_ok-frame.field-0 c.in_ok-frame.ensures.handed))
+      (fresh-pulled c.self.inside.assembler.window c.front-front.result c.self.inside.requests.asks c.self.invariant.fresh));
 }
 
 pub returns-in-Some-clause-stands : goal.returns-in-Some-clause-stands
@@ -79,3 +86,12 @@ returns-in-Some-clause-frame g c =
     (λ h stands. pull-frame c.runs_are.ensures c.runs_rise.ensures c.runs_apart.ensures c.answers_are.ensures.answers g.C.Codec.meaning i.assembler c.hand_out.new.self c.args.moment (Some c.in-Some.frame) h
     (subst (λ frame. IsHandedOut g.C.Codec.meaning i.assembler c.hand_out.new.self c.args.moment frame) c.in-Some.is c.in_ok-frame.ensures.handed) c.in_ok-frame.ensures.before c.in_ok-frame.ensures.after stands.assembled)
 
+pub returns-in-Some-clause-counts : goal.returns-in-Some-clause-counts
+returns-in-Some-clause-counts g c =
+    subst (λ (p : Parts). (c.hand_out.new.self.events ≡ p.events + 1) × (c.hand_out.new.self.clock ≡ max p.clock c.args.moment)) c.self.view_is
+    (pull-counts g.C.Codec.meaning c.self.inside.assembler c.hand_out.new.self c.args.moment c.in_ok-frame.field-0 c.in_ok-frame.ensures.handed)
+
+pub returns-in-Some-clause-settings : goal.returns-in-Some-clause-settings
+returns-in-Some-clause-settings g c =
+    subst (λ (p : Parts). c.hand_out.new.self.settings ≡ p.settings) c.self.view_is
+    (pull-settings g.C.Codec.meaning c.self.inside.assembler c.hand_out.new.self c.args.moment c.in_ok-frame.field-0 c.in_ok-frame.ensures.handed)
