@@ -218,6 +218,8 @@ impl<C: Codec> Engine<C> {
         ensures counts { (self.new.events ≡ self.old.events + 1) × (self.new.clock ≡ max self.old.clock moment) }
         ensures settings { self.new.settings ≡ self.old.settings }
     {
+        // A law: what the runs are.
+        runs_are();
         self.assembler.count(moment);
         let now = self.assembler.now();
         let started = self.assembler.newest().is_some();
