@@ -2,4 +2,6 @@ mod machine
 mod buffer
 mod relation
 mod step
+mod asking
 mod honest
+mod keyframes

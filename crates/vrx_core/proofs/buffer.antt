@@ -3,3 +3,4 @@ pub mod HeapLemmas
 pub mod KeptLemmas
 pub mod RunLemmas
 pub mod StandingRows
+pub mod GreatestLemmas

@@ -6,12 +6,15 @@ pub mod KeepsLemmas
 pub mod BroughtLemmas
 pub mod WireLemmas
 pub mod TookLemmas
+pub mod LostLemmas
 pub mod HonestTakenLemmas
 pub mod FrameLemmas
 pub mod BeginLemmas
 pub mod FrontLemmas
 pub mod HoldsLemmas
 pub mod ReadyLemmas
+pub mod LossLemmas
 pub mod HonestLemmas
 pub mod HonestRunsLemmas
 pub mod NeighbourRows
+pub mod LossRows

@@ -14,5 +14,4 @@ pub mod PassedLemmas
 pub mod KeyLemmas
 pub mod TestLemmas
 pub mod PacketLemmas
-pub mod DeadLemmas
 pub mod StandingLemmas

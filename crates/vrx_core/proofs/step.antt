@@ -4,3 +4,9 @@ pub mod EventLemmas
 pub mod RunLemmas
 pub mod FieldLemmas
 pub mod TakeLemmas
+pub mod LostLemmas
+pub mod NoticeLemmas
+pub mod GapLemmas
+pub mod WantedLemmas
+pub mod FreshLemmas
+pub mod ArrivalLemmas

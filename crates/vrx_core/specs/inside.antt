@@ -5,3 +5,4 @@ pub mod Heap
 pub mod Kept
 pub mod Joins
 pub mod Fields
+pub mod Wants

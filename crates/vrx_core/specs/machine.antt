@@ -7,6 +7,10 @@ pub mod Original
 pub mod Verdict
 pub mod Standing
 pub mod Deliverable
+pub mod Snapshot
+pub mod GivenUp
+pub mod Request
+pub mod KeyRequest
 pub mod Machine
 pub mod Reasons
 pub mod Available
@@ -14,3 +18,4 @@ pub mod Answers
 pub mod Passed
 pub mod PulledRise
 pub mod Clock
+pub mod Asking

@@ -1,40 +1,35 @@
 //! The engine: three events and what each answers.
 
-ghost use Rattle.std.specs.Prelude.{◌≡◌, ◌⊎◌, ◌+◌, ◌<◌, ◌≤◌, ◌↔◌, max, List, [], ◌∷◌, Some, None, OnOk, OnErr, IfOk, IfErr, IsOk, IsErr, IsErrOf};
+ghost use Rattle.std.specs.Prelude.{◌≡◌, ◌⊎◌, ◌+◌, ◌^◌, ◌<◌, ◌≤◌, ◌↔◌, max, List, [], ◌∷◌, Some, None, OnOk, OnErr, IfOk, IfSome, IfErr, IsOk, IsErr, IsErrOf, IsSome};
 ghost use Rattle.vrx_window.specs.Content.{contents_of};
 ghost use Rattle.vrx_frames.specs.Run.{Run as RunOf};
-ghost use Rattle.vrx_core.specs.machine.Machine.{ToDatagram, ToTick, ToPull, IfFrame, answer_of as answer_of_left, answer_taken as answer_taken_of, frame_of as frame_of_run, last_pulled as last_pulled_of, latest, reply, snapshots, what_of};
+ghost use Rattle.vrx_core.specs.machine.Machine.{ToDatagram, ToTick, ToPull, IfFrame, frame_of as frame_of_run, last_pulled as last_pulled_of, latest, nack_for, pli_for, reply, snapshots, what_of};
 ghost use Rattle.vrx_core.specs.machine.Answers.{IsLeastDeliverable, NoneDeliverable};
 ghost use Rattle.vrx_core.specs.machine.Verdict.{verdict as verdict_of};
 ghost use Rattle.vrx_core.specs.machine.SettingsFault.{IsFault, fault_of};
 ghost use Rattle.vrx_core.specs.machine.Reasons.{MeansAnswer};
-ghost use Rattle.vrx_core.specs.relation.Frames.{next_of};
 ghost use Rattle.vrx_core.specs.relation.StandsFor.{StandsFor};
-ghost use Rattle.vrx_core.specs.inside.Seen.{view_taken};
-ghost use Rattle.vrx_core.specs.inside.Step.{IsPulledAs, IsTakenAs, counted, lowest_of as lowest_number, with_runs};
-ghost use Rattle.vrx_core.specs.inside.Fields.{CanAddAll, IsCounted, IsHandedOut, IsHandled, IsFrameOf, IsWhole, MayBeTaken};
+ghost use Rattle.vrx_core.specs.relation.Order.{greatest_of};
+ghost use Rattle.vrx_core.specs.inside.Kept.{key_numbers};
+ghost use Rattle.vrx_core.specs.inside.Wants.{AreBelow, AreNear, asked_with, key_with, wanted_with};
+ghost use Rattle.vrx_asks.specs.IsAsks.{IsAsks};
 ghost use Rattle.vrx_core.specs.declared.event.Event.{Event};
 ghost use Rattle.vrx_core.specs.declared.reply.What.{What};
 
-use crate::count::Count;
-use crate::frames::Frames;
-use crate::front::front_after;
-use crate::held::held_of;
-use crate::joined::joined;
+use crate::assembler::{Arrival, Assembler};
 use crate::meanings::{answers_are, reasons_mean};
-use crate::original::{Brought, NotTaken};
-use crate::reply::{Frame, FrameBytes, Handled, Pulled, What};
+use crate::reply::{Handled, Pulled};
+use crate::requests::Requests;
 use crate::settings::{NewFault, Settings};
 use crate::settings_fault::fault_of as first_fault;
-use crate::verdict::{Taken, verdict};
+use arrayvec::ArrayVec;
 use std::alloc::Global;
-use std::marker::{Model, PhantomData};
-use vrx_codec::{Codec, Run};
-use vrx_frames::{Runs, runs_apart, runs_are, runs_rise};
-use vrx_num::limits::{MOST_EVENTS, WINDOW};
-use vrx_num::{Extender, NoMemory, Numbers};
-use vrx_rtcp::Feedback;
-use vrx_window::{Held, Window};
+use std::marker::Model;
+use vrx_codec::Codec;
+use vrx_frames::{runs_apart, runs_are, runs_rise};
+use vrx_num::limits::MOST_EVENTS;
+use vrx_num::{NoMemory, Numbers};
+use vrx_rtcp::{Feedback, nack_of, pli};
 
 /// No feedback.
 const NO_FEEDBACK: Feedback = Feedback {
@@ -49,70 +44,70 @@ const NO_FEEDBACK: Feedback = Feedback {
 /// machine's.
 #[derive(Drop)]
 pub struct Engine<C: Codec> {
-    codec: PhantomData<C>,
     alloc: Global,
-    settings: Settings,
-    count: Count,
-    extender: Extender,
-    window: Window,
-    runs: Runs<C>,
-    frames: Frames,
-    last_pulled: Option<u64>,
-    front: Option<u64>,
+    assembler: Assembler<C>,
+    requests: Requests,
 }
 
 impl<C: Codec> Model for Engine<C> {
-    ghost use Rattle.vrx_core.specs.relation.StandsFor.{Parts};
-    ghost use Rattle.vrx_core.specs.inside.Fields.{parts_of, AreFields};
+    ghost use Rattle.vrx_core.specs.relation.StandsFor.{Parts, parts_of};
+    ghost use Rattle.vrx_core.specs.inside.Fields.{IsSound};
 
     ghost Value = { Parts };
 
-    ghost view = { λ a. parts_of a.settings a.count a.window a.runs a.frames a.last_pulled a.front };
+    ghost view = { λ a. parts_of a.assembler a.requests };
 
-    ghost invariant = { λ a. AreFields C.meaning a.extender a.frames.from (parts_of a.settings a.count a.window a.runs a.frames a.last_pulled a.front) };
+    ghost invariant = { λ a. IsSound C.meaning a.assembler a.requests };
 }
 
-/// The answer to a datagram that isn't taken.
-fn answer_of(left: NotTaken) -> What
-    ensures { result ≡ answer_of_left left }
+/// The NACK of these numbers, unless there is none.
+fn nack_unless_none(settings: &Settings, numbers: &[u64]) -> Option<ArrayVec<u8, 496>>
+    requires near { AreNear numbers.now }
+    ensures { result ≡ nack_for settings.now numbers.now }
 {
-    match left {
-        NotTaken::Control => What::Rtcp,
-        NotTaken::Refused(reason) => What::Dropped(reason),
+    if numbers.len() == 0 {
+        None
+    } else {
+        Some(nack_of(settings.from_ssrc, settings.media_ssrc, numbers))
     }
 }
 
-/// The answer to one that is taken.
-fn answer_taken(taken: &Taken<'_>) -> What
-    ensures { result ≡ answer_taken_of (view_taken taken.now).0 (view_taken taken.now).1 }
+/// The PLI, if a keyframe is asked for.
+fn pli_if(settings: &Settings, key: bool) -> Option<[u8; 12]>
+    ensures { result ≡ pli_for settings.now key }
 {
-    match taken.seen.brought {
-        Brought::Media(_) => What::Media(taken.number),
-        Brought::Empty => What::Empty(taken.number),
+    if key {
+        Some(pli(settings.from_ssrc, settings.media_ssrc))
+    } else {
+        None
     }
 }
 
-/// The lowest number of the window after the newest number.
-fn lowest_of(newest: Option<u64>) -> u64
-    ensures { result ≡ lowest_number newest }
+/// Asks for what is missing, and for a keyframe, once a datagram was handled. One that isn't taken asks for nothing.
+fn ask<C: Codec>(
+    assembler: &Assembler<C>,
+    requests: &mut Requests,
+    arrival: &Option<Arrival>,
+) -> Feedback
+    requires below { IfSome arrival.now (λ a. AreBelow a.newest requests.old.asks) }
+    requires short { IfSome arrival.now (λ a. IfSome a.newest (λ m. m < 2 ^ 62)) }
+    ensures wanted { requests.new ≡ wanted_with assembler.now.clock assembler.now.front (greatest_of (key_numbers assembler.now.frames)) arrival.now requests.old }
+    ensures nack { result.nack ≡ nack_for assembler.now.settings (asked_with arrival.now) }
+    ensures pli { result.pli ≡ pli_for assembler.now.settings (key_with assembler.now.clock (greatest_of (key_numbers assembler.now.frames)) arrival.now requests.old) }
+    ensures sound { IsSome arrival.now → IsAsks requests.old.asks }
 {
-    match newest {
-        None => 0,
-        Some(newest) => newest.saturating_sub(WINDOW - 1),
-    }
-}
-
-/// Adds runs to those that stand, one after the other.
-fn add_all(frames: &mut Frames, runs: &[Run])
-    requires { CanAddAll frames.old.from runs.now frames.old.runs }
-    ensures from { frames.new.from ≡ frames.old.from }
-    ensures runs { frames.new.runs ≡ with_runs runs.now frames.old.runs }
-{
-    match runs {
-        [] => {}
-        [run, rest @ ..] => {
-            frames.add(*run);
-            add_all(frames, rest);
+    match arrival {
+        None => NO_FEEDBACK,
+        Some(arrival) => {
+            let now = assembler.now();
+            let front = assembler.front();
+            let key = assembler.greatest_key();
+            let asked = requests.taken(now, arrival, front, key);
+            let settings = assembler.settings();
+            Feedback {
+                nack: nack_unless_none(settings, asked.numbers.as_slice()),
+                pli: pli_if(settings, asked.key),
+            }
         }
     }
 }
@@ -147,29 +142,14 @@ impl<C: Codec> Engine<C> {
         ensures settings { IfOk result (λ engine. engine.settings ≡ settings) }
         ensures no_memory { IfErr result (λ fault. fault ≡ NewFault.NoMemory) }
     {
-        let Ok(window) = Window::new(alloc) else {
-            return Err(NewFault::NoMemory);
-        };
-        let Ok(runs) = Runs::new(alloc) else {
-            return Err(NewFault::NoMemory);
-        };
-        let Ok(frames) = Frames::new(alloc) else {
+        let assembler = Assembler::new(alloc, settings)?;
+        let Ok(requests) = Requests::new(alloc) else {
             return Err(NewFault::NoMemory);
         };
         Ok(Engine {
-            codec: PhantomData,
             alloc,
-            settings,
-            count: Count {
-                events: 0,
-                clock: 0,
-            },
-            extender: Extender::new(),
-            window,
-            runs,
-            frames,
-            last_pulled: None,
-            front: None,
+            assembler,
+            requests,
         })
     }
 
@@ -178,14 +158,14 @@ impl<C: Codec> Engine<C> {
         ensures value { result ≡ self.now.events }
         ensures few { result ≤ MOST_EVENTS }
     {
-        self.count.events
+        self.assembler.events()
     }
 
     /// The greatest moment of the events, in milliseconds: 0 before the first.
     pub fn now(&self) -> u64
         ensures value { result ≡ self.now.clock }
     {
-        self.count.clock
+        self.assembler.now()
     }
 
     /// Takes a datagram that came at this moment, in milliseconds.
@@ -218,25 +198,40 @@ impl<C: Codec> Engine<C> {
         reasons_mean();
         runs_are();
         runs_rise();
-        let what = self.handle(moment, bytes)?;
+        let outcome = self.assembler.handle(moment, bytes)?;
+        let feedback = ask(&self.assembler, &mut self.requests, &outcome.arrival);
         Ok(Handled {
-            what,
+            what: outcome.what,
             repaired: Numbers::new(self.alloc),
-            feedback: NO_FEEDBACK,
+            feedback,
         })
     }
 
-    /// Takes the time, in milliseconds. A tick moves only the clock and the count, and no feedback is sent.
+    /// Takes the time, in milliseconds. What is missing is asked for again at the interval of the settings, ten times in
+    /// all, and then given up; a keyframe is asked for if there is need of one. A tick takes no memory.
     pub fn tick(&mut self, moment: u64) -> Feedback
         requires room { self.old.events < MOST_EVENTS }
         ensures stands { (h : List Event) → StandsFor C.meaning self.old h →
             StandsFor C.meaning self.new (Event.Tick moment ∷ h) }
         ensures reply { (h : List Event) → StandsFor C.meaning self.old h →
             ToTick result ≡ reply self.old.settings C.meaning h (Event.Tick moment) }
-        ensures after { self.new ≡ record self.old { events = self.old.events + 1; clock = max self.old.clock moment } }
+        ensures counts { (self.new.events ≡ self.old.events + 1) × (self.new.clock ≡ max self.old.clock moment) }
+        ensures settings { self.new.settings ≡ self.old.settings }
     {
-        self.count(moment);
-        NO_FEEDBACK
+        // A law: what the runs are.
+        runs_are();
+        self.assembler.count(moment);
+        let now = self.assembler.now();
+        let started = self.assembler.newest().is_some();
+        let interval = self.assembler.settings().interval;
+        let key = self.assembler.greatest_key();
+        let ticked = self.requests.ticked(now, interval, started, key);
+        self.assembler.give_up_all(ticked.lost.as_slice());
+        let settings = self.assembler.settings();
+        Feedback {
+            nack: nack_unless_none(settings, ticked.numbers.as_slice()),
+            pli: pli_if(settings, ticked.key),
+        }
     }
 
     /// Gives the decoder the next frame, at this moment in milliseconds.
@@ -269,129 +264,13 @@ impl<C: Codec> Engine<C> {
         runs_are();
         runs_rise();
         runs_apart();
-        match self.hand_out(moment)? {
-            Some(frame) => Ok(Pulled::Frame(frame)),
+        match self.assembler.hand_out(moment)? {
+            Some(frame) => {
+                let front = self.assembler.front();
+                self.requests.pulled(front, frame.key, frame.first);
+                Ok(Pulled::Frame(frame))
+            }
             None => Ok(Pulled::NotReady),
         }
-    }
-
-    /// Handles a datagram. Memory is taken first: an `Err` changes nothing, and a datagram that isn't taken takes
-    /// none.
-    fn handle(&mut self, moment: u64, octets: &[u8]) -> Result<What, NoMemory>
-        requires room { self.old.events < MOST_EVENTS }
-        ensures handled { IfOk result (λ what. IsHandled C.meaning self.old self.new moment octets.now what) }
-        ensures err { OnErr result (self.new ≡ self.old) }
-        ensures before { IsWhole C.meaning self.old }
-        ensures after { IsWhole C.meaning self.new }
-        ensures refused { IsErr (verdict_of self.old.settings C.meaning (contents_of self.old.window) octets.now) →
-            IsOk result }
-    {
-        match verdict::<C>(&self.settings, &self.extender, &self.window, octets) {
-            Err(left) => {
-                self.count(moment);
-                Ok(answer_of(left))
-            }
-            Ok(taken) => {
-                let held = held_of::<C>(self.alloc, octets, &taken.seen)?;
-                self.take(moment, taken.number, held);
-                Ok(answer_taken(&taken))
-            }
-        }
-    }
-
-    /// Counts an event, and moves the clock.
-    fn count(&mut self, moment: u64)
-        requires room { self.old.events < MOST_EVENTS }
-        ensures counted { self.new ≡ counted self.old moment }
-        ensures before { IsWhole C.meaning self.old }
-        ensures after { IsWhole C.meaning self.new }
-    {
-        self.count.count(moment);
-    }
-
-    /// Takes a packet under its number: it is placed, and the runs that it completes stand. The runs are found with
-    /// the front before the event, which goes on after that. It takes no memory.
-    fn take(&mut self, moment: u64, n: u64, held: Held)
-        requires room { self.old.events < MOST_EVENTS }
-        requires may { MayBeTaken C.meaning self.old.window n held }
-        ensures taken { IsTakenAs C.meaning self.old self.new n held }
-        ensures counts { IsCounted self.old self.new moment }
-        ensures after { IsWhole C.meaning self.new }
-    {
-        // Laws: what the runs are, which rise by their first numbers.
-        runs_are();
-        runs_rise();
-        self.count.count(moment);
-        self.window.place(n, held);
-        self.extender.accept(n);
-        self.frames.drop_below(lowest_of(self.window.newest()));
-        let completed = self.runs.completed(&self.window, n, self.front);
-        add_all(&mut self.frames, completed.as_slice());
-        self.front = front_after(self.front, self.last_pulled, &self.window);
-    }
-
-    /// Gives the next frame. Memory is taken first: an `Err` changes nothing, and if no frame is ready none is taken.
-    fn hand_out(&mut self, moment: u64) -> Result<Option<Frame>, NoMemory>
-        requires room { self.old.events < MOST_EVENTS }
-        ensures handed { IfOk result (λ frame. IsHandedOut C.meaning self.old self.new moment frame) }
-        ensures err { OnErr result (self.new ≡ self.old) }
-        ensures before { IsWhole C.meaning self.old }
-        ensures after { IsWhole C.meaning self.new }
-        ensures none { next_of self.old.front self.old.frames ≡ None → IsOk result }
-    {
-        match self.next() {
-            None => {
-                self.count(moment);
-                Ok(None)
-            }
-            Some(run) => {
-                let frame = self.frame_of(run)?;
-                self.pass(moment, run);
-                Ok(Some(frame))
-            }
-        }
-    }
-
-    /// The run that is next.
-    fn next(&self) -> Option<Run>
-        ensures next { result ≡ next_of self.now.front self.now.frames }
-        ensures whole { IsWhole C.meaning self.now }
-    {
-        self.frames.next(self.front)
-    }
-
-    /// The frame that the next run is.
-    fn frame_of(&self, run: Run) -> Result<Frame, NoMemory>
-        requires next { next_of self.now.front self.now.frames ≡ Some run }
-        ensures frame { IfOk result (λ frame. IsFrameOf C.meaning self.now run frame) }
-    {
-        // A law: what the runs are.
-        runs_are();
-        let octets = joined::<C>(self.alloc, &self.window, run)?;
-        Ok(Frame {
-            first: run.first,
-            last: run.last,
-            ts: run.ts,
-            key: run.key,
-            bytes: FrameBytes::from_vec(octets),
-        })
-    }
-
-    /// Passes the next run, which was handed out.
-    fn pass(&mut self, moment: u64, run: Run)
-        requires room { self.old.events < MOST_EVENTS }
-        requires next { next_of self.old.front self.old.frames ≡ Some run }
-        ensures pulled { IsPulledAs self.old self.new run }
-        ensures counts { IsCounted self.old self.new moment }
-        ensures after { IsWhole C.meaning self.new }
-    {
-        // Laws: what the runs are, which rise by their first numbers and lie apart.
-        runs_are();
-        runs_rise();
-        runs_apart();
-        self.count.count(moment);
-        self.frames.take(run.first);
-        self.last_pulled = Some(run.last);
-        self.front = front_after(self.front, self.last_pulled, &self.window);
     }
 }

@@ -2,11 +2,12 @@
 
 ghost use Rattle.std.specs.Prelude.{◌≡◌, ◌+◌, ◌-◌, ◌<◌, ◌≤◌, ◌==◌, nat_lt, nat_le, max, true, false, if◌then◌else◌, None, IfOk};
 ghost use Rattle.std.specs.List.{All, find, filter};
-ghost use Rattle.vrx_core.specs.inside.Kept.{due_of, from_of, plain};
+ghost use Rattle.vrx_core.specs.inside.Kept.{due_of, from_of, greatest_with, key_numbers, plain};
 ghost use Rattle.vrx_window.specs.Window.{at};
+ghost use Rattle.vrx_core.specs.relation.Order.{greatest_of};
 ghost use Rattle.vrx_core.specs.relation.Frames.{IsStanding, is_passed, next_of, nothing, runs_from, stands, with_run};
 
-use crate::keys::Keys;
+use crate::keys::{Keys, later};
 use std::alloc::Global;
 use std::marker::Model;
 use vrx_codec::Run;
@@ -20,12 +21,14 @@ use vrx_window::Ring;
 /// that is added begins less than 2,048 beyond it. The memory is taken once.
 ///
 /// The runs are in a ring, under their first numbers, and what is gone stays there until its slot is taken again. The
-/// first numbers of the keyframes are in a heap. So no call looks at more than two runs, whatever stands.
+/// first numbers of the keyframes are in a heap, and the greatest of them is known. So no call looks at more than two
+/// runs, whatever stands.
 #[derive(Drop)]
 pub struct Frames {
     gone: Option<u64>,
     ring: Ring<Run>,
     keys: Keys,
+    greatest: Option<u64>,
 }
 
 impl Model for Frames {
@@ -33,11 +36,11 @@ impl Model for Frames {
 
     ghost Value = { Standing };
 
-    ghost use Rattle.vrx_core.specs.inside.Kept.{from_of, IsKept, standing_of};
+    ghost use Rattle.vrx_core.specs.inside.Kept.{from_of, AreKept, standing_of};
 
     ghost view = { λ a. standing_of a.gone a.ring };
 
-    ghost invariant = { λ a. IsKept (from_of a.gone) a.ring a.keys };
+    ghost invariant = { λ a. AreKept (from_of a.gone) a.ring a.keys a.greatest };
 }
 
 impl Frames {
@@ -49,6 +52,7 @@ impl Frames {
             gone: None,
             ring: Ring::new(alloc)?,
             keys: Keys::new(alloc)?,
+            greatest: None,
         })
     }
 
@@ -72,6 +76,7 @@ impl Frames {
         ensures runs { self.new.runs ≡ with_run run self.old.runs }
     {
         let n = run.first;
+        self.greatest = greatest_with(self.greatest, &run);
         if run.key {
             self.keys.put(n);
         }
@@ -107,6 +112,16 @@ impl Frames {
         }
     }
 
+    /// The greatest first number of a keyframe.
+    pub fn greatest_key(&self) -> Option<u64>
+        ensures greatest { result ≡ greatest_of (key_numbers self.now.runs) }
+    {
+        match self.greatest {
+            Some(n) if !is_gone(self.gone, n) => Some(n),
+            _ => None,
+        }
+    }
+
     /// The run that begins after the front, if it can be handed out.
     fn due(&self, front: Option<u64>) -> Option<Run>
         ensures due { result ≡ due_of front self.now.runs }
@@ -137,6 +152,17 @@ impl Frames {
             Some(n) => run_under(&self.ring, self.gone, n),
             None => None,
         }
+    }
+}
+
+/// The greatest first number of a keyframe, with one run more.
+fn greatest_with(greatest: Option<u64>, run: &Run) -> Option<u64>
+    ensures { result ≡ greatest_with greatest run.now }
+{
+    if run.key {
+        later(greatest, run.first)
+    } else {
+        greatest
     }
 }
 

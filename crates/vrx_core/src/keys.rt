@@ -2,6 +2,7 @@
 
 ghost use Rattle.std.specs.Prelude.{◌≡◌, ◌+◌, ◌<◌, ◌==◌, nat_le, nat_lt, true, false, [], length, drop, slice_get, IfOk};
 ghost use Rattle.std.specs.List.{filter, list_any};
+ghost use Rattle.vrx_num.specs.Extended.{greater};
 ghost use Rattle.vrx_core.specs.relation.Order.{put_by, rises_by};
 
 use std::alloc::Global;
@@ -91,5 +92,15 @@ impl Keys {
             Some(_) => {}
             None => {}
         }
+    }
+}
+
+/// The greater of a number, if there is one, and another.
+pub(crate) fn later(number: Option<u64>, n: u64) -> Option<u64>
+    ensures { result ≡ greater number n }
+{
+    match number {
+        Some(number) => Some(number.max(n)),
+        None => Some(n),
     }
 }

@@ -13,8 +13,10 @@ use vrx_rtp::one_reading;
 /// and in any order, each packet at most 32,768 places away from the greatest one taken, and beside it only octets that
 /// are RTCP or are refused whatever came before. Then the frames pulled are frames that were sent, byte for byte, in
 /// the order in which they were sent, each at most once, from a keyframe on, and each after its chain and its
-/// references. Each pull is answered by the least frame that is ready, and by `NotReady` exactly if none is. It holds
-/// for all settings without a fault and every codec's meaning.
+/// references. Each pull is answered by the least frame that is ready, and by `NotReady` exactly if none is. Each
+/// packet that an event gives up brings a request for a keyframe in the reply to that event, unless a keyframe that
+/// begins beyond the packet stands or was pulled, or an earlier request is outstanding and no keyframe completes with
+/// the event. It holds for all settings without a fault and every codec's meaning.
 pub fn honest_call()
     ensures honest { HonestCallHolds }
 {
@@ -24,12 +26,12 @@ pub fn honest_call()
     one_reading();
 }
 
-/// What a receiver takes and keeps in an honest call, said in the sender's terms only. A datagram of the sender is taken
-/// exactly if it is the first, or its packet wasn't taken before, lies fewer than 2,048 places below the greatest
-/// packet taken and fewer than 32,768 above it. If it is taken, it is answered as what it brings, by its packet's
-/// number. The packets available are those taken that lie fewer than 2,048 places below the greatest, each under its
-/// number: a media packet octet for octet as it was sent, without padding, and an empty packet as empty. Nothing else
-/// is available.
+/// What a receiver takes and keeps in an honest call, said in the sender's terms. A datagram of the sender is taken
+/// exactly if it is the first, or its packet was neither taken before nor given up, lies fewer than 2,048 places below
+/// the greatest packet taken and fewer than 32,768 above it. If it is taken, it is answered as what it brings, by its
+/// packet's number. The packets available are those taken that lie fewer than 2,048 places below the greatest, each
+/// under its number: a media packet octet for octet as it was sent, without padding, and an empty packet as empty.
+/// Nothing else is available.
 pub fn honest_taken()
     ensures taken { HonestTakenHolds }
 {

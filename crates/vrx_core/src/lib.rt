@@ -5,6 +5,7 @@
 //! history of events to the reply to the next one. The first call to look at is `Engine::datagram`.
 #![tactic(auto)]
 
+mod assembler;
 mod count;
 mod engine;
 mod event;
@@ -17,6 +18,7 @@ mod laws;
 mod meanings;
 mod original;
 mod reply;
+mod requests;
 mod settings;
 mod settings_fault;
 #[cfg(test)]

@@ -17,7 +17,9 @@ use vrx_codec::Codec;
 use vrx_core::{Engine, Event, NewFault, Settings};
 use vrx_h264::H264;
 use vrx_num::NoMemory;
-use vrx_text::{CodecName, ErrorReason, read_settings, write_handled, write_pulled};
+use vrx_text::{
+    CodecName, ErrorReason, read_settings, write_handled, write_pulled, write_tick,
+};
 use vrx_vp8::Vp8;
 
 /// A replay: the engine of the codec that the first line tells.
@@ -40,7 +42,7 @@ fn written(text: Result<(), NoMemory>) -> Result<(), Unanswered>
     }
 }
 
-/// Puts the text of an engine's reply to an event after a text. Ticks are refused.
+/// Puts the text of an engine's reply to an event after a text.
 fn reply_of<C: Codec>(
     engine: &mut Engine<C>,
     k: u32,
@@ -62,7 +64,10 @@ fn reply_of<C: Codec>(
             Ok(handled) => written(write_handled(text, k, &handled)),
             Err(_) => Err(Unanswered::NoMemory),
         },
-        Event::Tick { .. } => Err(Unanswered::Refused(ErrorReason::Later)),
+        Event::Tick { moment } => {
+            let feedback = engine.tick(*moment);
+            written(write_tick(text, k, &feedback))
+        }
         Event::Pull { moment } => match engine.pull(*moment) {
             Ok(pulled) => written(write_pulled(text, k, &pulled)),
             Err(_) => Err(Unanswered::NoMemory),

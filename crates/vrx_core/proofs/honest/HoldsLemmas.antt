@@ -111,7 +111,7 @@ module _ (settings : Settings) (codec : Meaning) (sender : Sender) (honest : Hon
     aside-holds left (Ok x) is took = absurd (cc)
 
     -- a tick
-    pub tick-holds : Took sender (after_tick (latest past) moment ∷ past) js → Holds (after_tick (latest past) moment ∷ past) js fs
+    pub tick-holds : Took sender (after_tick settings past moment ∷ past) js → Holds (after_tick settings past moment ∷ past) js fs
     tick-holds took = record { took = took; pulled = h.pulled; closed = h.closed; front = h.front }
 
     -- a pull that gives nothing

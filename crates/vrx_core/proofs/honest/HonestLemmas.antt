@@ -25,6 +25,7 @@ use Rattle.vrx_core.proofs.honest.BroughtLemmas.{verdict_aside}
 use Rattle.vrx_core.proofs.machine.TextLemmas.{ReadsPacket}
 use Rattle.vrx_core.proofs.honest.TookLemmas.{Took}
 use Rattle.vrx_core.proofs.honest.HonestTakenLemmas.{took_step, first_took}
+use Rattle.vrx_core.proofs.honest.LossLemmas.{losses-asked}
 use Rattle.vrx_core.proofs.honest.HoldsLemmas.{Holds, bound_of, opening-holds, datagram-holds, aside-holds, tick-holds, none-holds, frame-holds}
 use Rattle.vrx_core.proofs.honest.ReadyLemmas.{frame_is, none_ready, answer_least, answer_sent, answer_later, answer_pulled, answer_key, answer_chain, answer_references}
 
@@ -243,7 +244,7 @@ module _ (meant : GivesMeant) (law : ReadsPacket) (are : RunsAre) (settings : Se
   pub honest-call : (events : List Event) (origins : List Origin) → HonestNetwork settings codec sender [] [] events origins → HonestCall settings codec sender events origins (replies settings codec [] events)
   honest-call events origins network =
       let call : CallFrom [] [] [] events origins (replies settings codec [] events) = call_from events [] [] origins [] first_holds network in
-      record { given = call.given; answers = call.answers; rising = rising 0 (places_of call.given) call.rise; sent = call.sent; from_key = call.from_key refl; after_references = call.references }
+      record { given = call.given; answers = call.answers; rising = rising 0 (places_of call.given) call.rise; sent = call.sent; from_key = call.from_key refl; after_references = call.references; losses = losses-asked settings codec sender events [] [] origins network }
 
 -- every honest call is answered rightly
 pub honest_call : GivesMeant → ReadsPacket → RunsAre → HonestCallHolds

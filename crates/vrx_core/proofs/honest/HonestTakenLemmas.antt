@@ -1,21 +1,22 @@
--- What a receiver takes and keeps in an honest call, said in the sender's terms only.
-use Rattle.std.proofs.Common.{◌≡◌, ℕ, ◌+◌, ◌<◌, ◌≤◌, ◌↔◌, max, true, false, List, [], ◌∷◌, slice_get, Contains, Option, Some, None, IsSomeAnd, is_some, is_ok, Result, Ok, Err, refl, sym, ◌∙◌, ap, subst, arith}
-use Rattle.std.proofs.lemmas.Bool.{both_ways, false_from_ne_true, lt-leb}
+-- What a receiver takes and keeps in an honest call, said in the sender's terms.
+use Rattle.std.proofs.Common.{◌≡◌, ℕ, ◌+◌, ◌<◌, ◌≤◌, ◌↔◌, max, true, false, Bool, List, [], ◌∷◌, slice_get, Contains, Option, Some, None, IsSomeAnd, is_some, is_ok, Result, Ok, Err, refl, sym, ◌∙◌, ap, subst, arith}
+use Rattle.std.proofs.lemmas.Bool.{both_ways, false_from_ne_true, lt-leb, true≢false}
 use Rattle.vrx_num.specs.Extended.{Extends, GivesMeant, extended}
 use Rattle.vrx_num.specs.declared.limits.TheConstants.{WINDOW, HALF_SPACE}
 use Rattle.vrx_codec.specs.Meaning.{Meaning}
 use Rattle.vrx_window.specs.Content.{Content}
-use Rattle.vrx_window.specs.Window.{Contents, at, is_available, is_dead, is_too_old, newest_with, would_of}
+use Rattle.vrx_window.specs.Window.{Contents, at, is_available, is_too_old, newest_with, would_of}
 use Rattle.vrx_window.specs.declared.placing.Placing.TheVariants as placings
 use Rattle.vrx_frames.specs.Run.{Packets}
 use Rattle.vrx_core.specs.machine.SettingsFault.{fault_of}
 use Rattle.vrx_core.specs.machine.Verdict.{verdict}
+use Rattle.vrx_core.specs.machine.GivenUp.{is_lost}
 use Rattle.vrx_core.specs.machine.Machine.{latest, next_run, what_of, what_in, answer_taken, snapshots, reply}
 use Rattle.vrx_core.specs.honest.Sender.{SentPacket, Sender, wire_of}
 use Rattle.vrx_core.specs.honest.WireForm.{brought_by}
 use Rattle.vrx_core.specs.honest.HonestSender.{HonestSender}
 use Rattle.vrx_core.specs.honest.HonestNetwork.{Origin, FromSender, Elsewhere, IsNear, IsDelivery, HonestNetwork, greatest, taken}
-use Rattle.vrx_core.specs.honest.HonestTaken.{IsToTake, IsToKeep, KeepsRightly, TakesPacket, IsTakenRightly, TakesRightly, HonestTakenHolds}
+use Rattle.vrx_core.specs.honest.HonestTaken.{IsInReach, IsToTake, IsToKeep, KeepsRightly, TakesPacket, IsTakenRightly, TakesRightly, HonestTakenHolds}
 use Rattle.vrx_core.specs.honest.Ready.{IsNumber}
 use Rattle.vrx_core.specs.declared.settings.Settings.{Settings}
 use Rattle.vrx_core.specs.declared.event.Event.{Event}
@@ -23,14 +24,14 @@ use Rattle.vrx_core.specs.declared.event.Event.TheVariants.{Datagram, Tick, Pull
 use Rattle.vrx_core.specs.declared.original.NotTaken.{NotTaken}
 use Rattle.vrx_core.proofs.machine.MemberLemmas.{Contains-empty}
 use Rattle.vrx_core.proofs.machine.PacketLemmas.{open-newest}
-use Rattle.vrx_core.proofs.machine.DeadLemmas.{none_dead}
 use Rattle.vrx_core.proofs.machine.TextLemmas.{ReadsPacket}
 use Rattle.vrx_core.proofs.machine.VerdictLemmas.{IsFresh, fresh-is, fresh-from}
+use Rattle.vrx_core.proofs.honest.LostLemmas.{Matches, matches}
 use Rattle.vrx_core.proofs.honest.BroughtLemmas.{verdict_taken, verdict_take}
 use Rattle.vrx_core.proofs.honest.NumberLemmas.{IsNewestOf, taken-number, wire_below, is_number-extends}
 use Rattle.vrx_core.proofs.honest.PartLemmas.{some_from}
 use Rattle.vrx_core.proofs.honest.KeptLemmas.{AreKept, kept-there}
-use Rattle.vrx_core.proofs.honest.KeepsLemmas.{Keeps, greatest-upto, near-number, number-near, one-place}
+use Rattle.vrx_core.proofs.honest.KeepsLemmas.{Keeps, greatest-upto, near-number, number-near, one-number, one-place}
 use Rattle.vrx_core.proofs.honest.WireLemmas.{Brings, brings}
 use Rattle.vrx_core.proofs.honest.TookLemmas.{TookNow, Took, opening-took, brought-took, aside-took, tick-took, pull-took}
 
@@ -43,7 +44,13 @@ ok_value : (r : Result (ℕ × Content) NotTaken) → is_ok r ≡ true → (x : 
 ok_value (Ok x) h = (x, refl)
 ok_value (Err reason) h = absurd (cc)
 
-module _ (meant : GivesMeant) (settings : Settings) (codec : Meaning) (sender : Sender) (window : Contents Content) (alive : window.dead ≡ []) (i : ℕ) (octets : List ℕ) (b : Brings settings codec sender i octets) where
+-- packet i is one to take, after these packets were taken, and after these numbers were given up
+record ToTake (sender : Sender) (lost : ℕ → Bool) (i : ℕ) (js : List ℕ) : Type 0 where
+  in_reach : IsInReach i js
+  not_taken : Contains js i → ⊥
+  not_lost : (n : ℕ) → IsNumber sender js i n → lost n ≡ false
+
+module _ (meant : GivesMeant) (settings : Settings) (codec : Meaning) (sender : Sender) (window : Contents Content) (lost : ℕ → Bool) (match : Matches window lost) (i : ℕ) (octets : List ℕ) (b : Brings settings codec sender i octets) where
   -- the verdict on it
   abbrev v : Result (ℕ × Content) NotTaken
   v = verdict settings codec window octets
@@ -52,9 +59,9 @@ module _ (meant : GivesMeant) (settings : Settings) (codec : Meaning) (sender : 
   taken_is : (n : ℕ) (content : Content) → v ≡ Ok (n, content) → (extended window.newest (wire_of sender i) ≡ Some n) × (content ≡ brought_by b.packet) × (would_of window n ≡ placings.Fresh)
   taken_is n content is = verdict_taken settings codec window octets (record { wire = wire_of sender i; content = brought_by b.packet }) n content b.is is
 
-  -- a number that is neither too old nor available is taken
-  take_is : (n : ℕ) → extended window.newest (wire_of sender i) ≡ Some n → is_too_old window.newest n ≡ false → is_available n window.packets ≡ false → is_ok v ≡ true
-  take_is n number old again = ap is_ok (verdict_take settings codec window octets (record { wire = wire_of sender i; content = brought_by b.packet }) n b.is number (fresh-from window n (record { young = old; alive = ap (is_dead n) alive; free = again })))
+  -- a number that is neither too old nor given up nor available is taken
+  take_is : (n : ℕ) → extended window.newest (wire_of sender i) ≡ Some n → is_too_old window.newest n ≡ false → lost n ≡ false → is_available n window.packets ≡ false → is_ok v ≡ true
+  take_is n number old alive again = ap is_ok (verdict_take settings codec window octets (record { wire = wire_of sender i; content = brought_by b.packet }) n b.is number (fresh-from window n (record { young = old; alive = match.dead n old ∙ alive; free = again })))
 
   -- the answer to a sender's datagram that is near those taken, if it is taken, is what it brings under its packet's
   -- number
@@ -68,7 +75,7 @@ module _ (meant : GivesMeant) (settings : Settings) (codec : Meaning) (sender : 
   first-taken : Keeps sender [] window.packets → window.newest ≡ None → is_ok v ≡ true
   first-taken keeps none =
       let n : ℕ = wire_of sender i + 65536 in
-      take_is n (ap (λ (o : Option ℕ). extended o (wire_of sender i)) none) (ap (λ (o : Option ℕ). is_too_old o n) none) (nothing_there sender window.packets n keeps)
+      take_is n (ap (λ (o : Option ℕ). extended o (wire_of sender i)) none) (ap (λ (o : Option ℕ). is_too_old o n) none) (match.none none n) (nothing_there sender window.packets n keeps)
 
   module _ (j : ℕ) (js : List ℕ) (m : ℕ) (newest : window.newest ≡ Some m) (from : 65536 ≤ m) (number : IsNumber sender (j ∷ js) (greatest (j ∷ js)) m) (keeps : Keeps sender (j ∷ js) window.packets) (near : IsNear i (j ∷ js)) where
     -- its number beside the newest
@@ -76,17 +83,17 @@ module _ (meant : GivesMeant) (settings : Settings) (codec : Meaning) (sender : 
     later-number = ap (λ (o : Option ℕ). extended o (wire_of sender i)) newest
 
     -- a later packet that is one to take is taken
-    later-taken : IsToTake i (j ∷ js) → is_ok v ≡ true
+    later-taken : ToTake sender lost i (j ∷ js) → is_ok v ≡ true
     later-taken to_take =
-        let e : (n : ℕ) × IsNumber sender (j ∷ js) i n × Extends m (wire_of sender i) n = is_number-extends sender j js m i from number to_take.0 to_take.1 in
+        let e : (n : ℕ) × IsNumber sender (j ∷ js) i n × Extends m (wire_of sender i) n = is_number-extends sender j js m i from number to_take.in_reach.0 to_take.in_reach.1 in
         let given : extended window.newest (wire_of sender i) ≡ Some e.0 = later-number ∙ (meant m (wire_of sender i) e.0 (omega arith) (wire_below sender i)).1 e.2 in
-        let less : m < e.0 + WINDOW = near-number sender (j ∷ js) i (greatest (j ∷ js)) e.0 m WINDOW e.1 number to_take.1 in
+        let less : m < e.0 + WINDOW = near-number sender (j ∷ js) i (greatest (j ∷ js)) e.0 m WINDOW e.1 number to_take.in_reach.1 in
         let old : is_too_old window.newest e.0 ≡ false = ap (λ (o : Option ℕ). is_too_old o e.0) newest ∙ lt-leb (e.0 + WINDOW) m less in
-        let again : is_available e.0 window.packets ≡ false = false_from_ne_true _ (λ h. to_take.2 (subst (λ (x : ℕ). Contains (j ∷ js) x) (one-place sender (j ∷ js) (keeps.from e.0 h).0 i e.0 (keeps.from e.0 h).2 e.1) (keeps.from e.0 h).1)) in
-        take_is e.0 given old again
+        let again : is_available e.0 window.packets ≡ false = false_from_ne_true _ (λ h. to_take.not_taken (subst (λ (x : ℕ). Contains (j ∷ js) x) (one-place sender (j ∷ js) (keeps.from e.0 h).0 i e.0 (keeps.from e.0 h).2 e.1) (keeps.from e.0 h).1)) in
+        take_is e.0 given old (to_take.not_lost e.0 e.1) again
 
     -- a later packet that is taken is one to take
-    later-to_take : is_ok v ≡ true → IsToTake i (j ∷ js)
+    later-to_take : is_ok v ≡ true → ToTake sender lost i (j ∷ js)
     later-to_take h =
         let x : (x : ℕ × Content) × (v ≡ Ok x) = ok_value v h in
         let n : ℕ = x.0.0 in
@@ -98,11 +105,16 @@ module _ (meant : GivesMeant) (settings : Settings) (codec : Meaning) (sender : 
         let with_m : newest_with window.newest n ≡ max m n = ap (λ (o : Option ℕ). newest_with o n) newest in
         let less_m : m < n + WINDOW = omega arith in
         let close : greatest (j ∷ js) < i + WINDOW = number-near sender (j ∷ js) i (greatest (j ∷ js)) n m WINDOW here number less_m in
-        (number-near sender (j ∷ js) (greatest (j ∷ js)) i m n HALF_SPACE number here e.not_far_ahead, close, λ c. both_ways (is_available n window.packets) opened.free (keeps.all i n c here close))
+        let alive : lost n ≡ false = sym (match.dead n opened.young) ∙ opened.alive in
+        record {
+          in_reach = (number-near sender (j ∷ js) (greatest (j ∷ js)) i m n HALF_SPACE number here e.not_far_ahead, close);
+          not_taken = λ c. both_ways (is_available n window.packets) opened.free (keeps.all i n c here close);
+          not_lost = λ k is. ap lost (one-number sender (j ∷ js) i k n is here) ∙ alive;
+        }
 
   -- a sender's datagram that is near those taken is taken exactly if its packet is one to take
-  rightly-taken : (js : List ℕ) → IsNewestOf sender js window.newest → Keeps sender js window.packets → IsNear i js → (is_ok v ≡ true) ↔ IsToTake i js
-  rightly-taken [] newest keeps near = (λ _. tt, λ _. first-taken keeps newest)
+  rightly-taken : (js : List ℕ) → IsNewestOf sender js window.newest → Keeps sender js window.packets → IsNear i js → (is_ok v ≡ true) ↔ ToTake sender lost i js
+  rightly-taken [] newest keeps near = (λ _. record { in_reach = tt; not_taken = Contains-empty i; not_lost = λ n is. absurd is }, λ _. first-taken keeps newest)
   rightly-taken (j ∷ js) newest keeps near = (later-to_take j js newest.0 newest.1 newest.2 newest.3 keeps near, later-taken j js newest.0 newest.1 newest.2 newest.3 keeps near)
 
 -- a number available is that of a packet to keep
@@ -146,6 +158,22 @@ module _ (settings : Settings) (codec : Meaning) (sender : Sender) (h : List Eve
     only = λ n h'. let p = t.keeps.from n h' in (p.0, p.2, (p.1, p.3));
   }
 
+  -- what is one to take by its numbers is one to take
+  is_to_take : (i : ℕ) → ToTake sender (is_lost (snapshots settings codec h)) i (taken settings codec h origins) → IsToTake settings codec sender h origins i
+  is_to_take i to = record {
+    in_reach = to.in_reach;
+    not_taken = to.not_taken;
+    not_given_up = λ given. true≢false (sym given.2 ∙ to.not_lost given.0 given.1);
+  }
+
+  -- and back
+  to_take : (i : ℕ) → IsToTake settings codec sender h origins i → ToTake sender (is_lost (snapshots settings codec h)) i (taken settings codec h origins)
+  to_take i to = record {
+    in_reach = to.in_reach;
+    not_taken = to.not_taken;
+    not_lost = λ n is. false_from_ne_true (is_lost (snapshots settings codec h) n) (λ l. to.not_given_up (n, is, l));
+  }
+
   module _ (meant : GivesMeant) (law : ReadsPacket) (good : fault_of settings ≡ None) (honest : HonestSender settings codec sender) (t : Took sender (snapshots settings codec h) (taken settings codec h origins)) where
     -- what was taken after one event more
     pub took_step : (e : Event) (o : Origin) → IsDelivery settings codec sender h origins e o → Took sender (snapshots settings codec (e ∷ h)) (taken settings codec (e ∷ h) (o ∷ origins))
@@ -165,10 +193,14 @@ module _ (settings : Settings) (codec : Meaning) (sender : Sender) (h : List Eve
         let window : Contents Content = (latest (snapshots settings codec h)).window in
         let js : List ℕ = taken settings codec h origins in
         let b : Brings settings codec sender i octets = brings law settings codec good sender honest i octets delivery.0 in
+        let lost : ℕ → Bool = is_lost (snapshots settings codec h) in
+        let match : Matches window lost = matches settings codec h in
+        let exact : (is_ok (verdict settings codec window octets) ≡ true) ↔ ToTake sender lost i js =
+        rightly-taken meant settings codec sender window lost match i octets b js t.here.newest t.here.keeps delivery.1 in
         record {
-          exactly = rightly-taken meant settings codec sender window (none_dead settings codec h) i octets b js t.here.newest t.here.keeps delivery.1;
+          exactly = (λ h'. is_to_take i (exact.0 h'), λ to. exact.1 (to_take i to));
           answer = λ h'.
-              let p = brought-answer meant settings codec sender window (none_dead settings codec h) i octets b js t.here.newest delivery.1 h' in
+              let p = brought-answer meant settings codec sender window lost match i octets b js t.here.newest delivery.1 h' in
               (p.0, p.1, some_from (λ packet. what_in (reply settings codec h (Datagram moment octets)) ≡ Some (answer_taken p.0 (brought_by packet))) (slice_get sender.packets i) b.packet b.sent (ap Some p.2));
         }
 

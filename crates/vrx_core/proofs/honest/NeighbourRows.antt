@@ -25,13 +25,13 @@ use Rattle.vrx_core.proofs.machine.MemberLemmas.{Contains-either, Contains-empty
 
 -- a codec whose payloads leave open where a frame begins: a payload is the part's body, one with an octet 5 says a
 -- keyframe, and parts join to their bodies
-abbrev codec : Meaning
+abbrev pub codec : Meaning
 codec = record {
   read = λ payload. Ok (record { start = ByNeighbour; key = list_any (λ octet. octet == 5) payload; layers = None; body = payload });
   join = λ parts. Ok (flat_map (λ part. part.body) parts);
 }
 
-abbrev settings : Settings
+abbrev pub settings : Settings
 settings = record { media_ssrc = 10; media_type = 96; red = None; rtx = None; from_ssrc = 11; interval = 100 }
 
 -- they have no fault
@@ -40,13 +40,13 @@ no_fault = refl
 
 -- a keyframe of one packet, a keyframe of two packets, an empty packet with one octet of padding, and a frame of one
 -- packet that refers to the frame before it
-abbrev first_text : List ℕ
+abbrev pub first_text : List ℕ
 first_text = 128 ∷ 224 ∷ 0 ∷ 1 ∷ 0 ∷ 0 ∷ 0 ∷ 0 ∷ 0 ∷ 0 ∷ 0 ∷ 10 ∷ 5 ∷ 170 ∷ []
 
-abbrev second_text : List ℕ
+abbrev pub second_text : List ℕ
 second_text = 128 ∷ 96 ∷ 0 ∷ 2 ∷ 0 ∷ 0 ∷ 0 ∷ 9 ∷ 0 ∷ 0 ∷ 0 ∷ 10 ∷ 5 ∷ 187 ∷ []
 
-abbrev third_text : List ℕ
+abbrev pub third_text : List ℕ
 third_text = 128 ∷ 224 ∷ 0 ∷ 3 ∷ 0 ∷ 0 ∷ 0 ∷ 9 ∷ 0 ∷ 0 ∷ 0 ∷ 10 ∷ 204 ∷ []
 
 abbrev empty_octets : List ℕ
@@ -64,7 +64,7 @@ second_frame = record { bytes = 5 ∷ 187 ∷ 204 ∷ []; key = true; ts = 9; re
 abbrev third_frame : SentFrame
 third_frame = record { bytes = 221 ∷ []; key = false; ts = 18; references = 1 ∷ [] }
 
-abbrev sender : Sender
+abbrev pub sender : Sender
 sender = record {
   first_wire = 1;
   frames = first_frame ∷ second_frame ∷ third_frame ∷ [];

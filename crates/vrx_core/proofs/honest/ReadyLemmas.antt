@@ -11,7 +11,6 @@ use Rattle.vrx_rtp.specs.Reading.{read}
 use Rattle.vrx_codec.specs.declared.part.Start.{Start}
 use Rattle.vrx_codec.specs.declared.part.Start.TheVariants.{Yes, No, ByNeighbour}
 use Rattle.vrx_num.specs.declared.limits.TheConstants.{WINDOW}
-use Rattle.vrx_window.specs.Content.{Content}
 use Rattle.vrx_window.specs.Content as contents
 use Rattle.vrx_window.specs.Window.{at, is_available}
 use Rattle.vrx_frames.specs.Run.{Packets, Run, Piece, begins, ends_frame, stands, stands_behind, is_start, is_passed}

@@ -109,8 +109,11 @@ module _ (sender : Sender) where
     brought-took i octets b near = brought_by_verdict i octets b near (verdict settings codec (latest past).window octets) refl
 
     -- a tick
-    pub tick-took : Took (after_tick (latest past) moment ∷ past) js
-    tick-took = still-took past js (after_tick (latest past) moment) refl t
+    pub tick-took : Took (after_tick settings past moment ∷ past) js
+    tick-took = record {
+      here = record { newest = t.here.newest; kept = t.here.kept; keeps = t.here.keeps };
+      were = (t.here.kept, t.were);
+    }
 
     -- a pull, whatever it gives
     pub pull-took : (o : Option Run) → Took (after_pull codec past moment o ∷ past) js

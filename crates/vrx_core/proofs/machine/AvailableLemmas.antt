@@ -188,7 +188,7 @@ module _ (settings : Settings) (codec : Meaning) (n : ℕ) (content : Content) w
   still_next : (h : List Event) (e : Event) → IsStill (latest (snapshots settings codec h)).window → IsStill (latest (snapshots settings codec (e ∷ h))).window
   unfolding snapshots
   still_next h (Datagram moment octets) still = still_datagram (snapshots settings codec h) moment octets (verdict settings codec (latest (snapshots settings codec h)).window octets) refl still
-  still_next h (Tick moment) still = still
+  still_next h (Tick moment) still = record { upto = still.upto; there = still.there }
   still_next h (Pull moment) still =
       let past : List Snapshot = snapshots settings codec h in
       subst IsStill (sym (pull_window codec past moment (next_run (latest past)))) still

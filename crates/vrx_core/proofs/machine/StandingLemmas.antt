@@ -10,7 +10,8 @@ use Rattle.vrx_frames.specs.IsRun.{IsRunBy, RunsAre}
 use Rattle.vrx_core.specs.machine.Verdict.{verdict}
 use Rattle.vrx_core.specs.machine.Deliverable.{is_deliverable}
 use Rattle.vrx_core.specs.machine.Standing.{began_behind, no_layers, standing_of}
-use Rattle.vrx_core.specs.machine.Machine.{Snapshot, latest, times, last_pulled, after_datagram, after_tick, after_pull, next_run, snapshots}
+use Rattle.vrx_core.specs.machine.Snapshot.{moved}
+use Rattle.vrx_core.specs.machine.Machine.{Snapshot, latest, times, last_pulled, after_datagram, after_pull, next_run, snapshots}
 use Rattle.vrx_core.specs.declared.settings.Settings.{Settings}
 use Rattle.vrx_core.specs.declared.event.Event.{Event}
 use Rattle.vrx_core.specs.declared.event.Event.TheVariants.{Datagram, Tick, Pull}
@@ -33,7 +34,7 @@ abbrev pub IsSettled : Meaning → List Snapshot → Type 0
 IsSettled codec past = (latest past).standing ≡ standing_of codec (times past) (latest past).front (last_pulled (latest past).pulled) (latest past).window.packets
 
 -- an event that moves only the clock leaves them
-pub tick_settled : (codec : Meaning) (past : List Snapshot) (moment : ℕ) → IsSettled codec past → IsSettled codec (after_tick (latest past) moment ∷ past)
+pub tick_settled : (codec : Meaning) (past : List Snapshot) (moment : ℕ) → IsSettled codec past → IsSettled codec (moved (latest past) moment ∷ past)
 tick_settled codec [] moment is = refl
 tick_settled codec (s ∷ past) moment is = is ∙ ap (λ began. filter (stands (last_pulled s.pulled)) (runs_by codec no_layers (is_start s.front began) s.window.packets)) (sym (began-again s.window.packets (times past)))
 

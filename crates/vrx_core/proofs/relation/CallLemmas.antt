@@ -22,7 +22,7 @@ use Rattle.vrx_frames.specs.Shape.{shape_of}
 use Rattle.vrx_frames.specs.declared.shape.Shape.{Shape}
 use Rattle.vrx_core.specs.machine.Standing.{no_layers}
 use Rattle.vrx_core.specs.relation.Frames.{is_deliverable, is_passed, next_of, runs_from}
-use Rattle.vrx_core.specs.relation.StandsFor.{Parts}
+use Rattle.vrx_core.specs.relation.StandsFor.{Assembly}
 use Rattle.vrx_core.specs.inside.Step.{AreTaken, IsKept, lowest_of, packets_of}
 use Rattle.vrx_core.proofs.relation.ListLemmas.{all-of, filter-from, find-among, map-from, rises-from}
 use Rattle.vrx_core.proofs.relation.MapLemmas.{at_map, at_put-here}
@@ -35,7 +35,7 @@ pub use Rattle.vrx_core.proofs.relation.AddLemmas.{CanAdd, CanBeAdded}
 pub use Rattle.vrx_core.proofs.relation.PlacedLemmas.{taken-placed}
 
 -- what the runs ask for when n was placed in this window: as `Runs::completed` says it
-pub record CanComplete (codec : Meaning) (before : Parts) (window : Contents Held) (n : ℕ) : Type 0 where
+pub record CanComplete (codec : Meaning) (before : Assembly) (window : Contents Held) (n : ℕ) : Type 0 where
   pub sound : AreSound codec window.packets
   pub held : is_available n window.packets ≡ true
   pub fresh : is_available n before.known.told ≡ false
@@ -44,7 +44,7 @@ pub record CanComplete (codec : Meaning) (before : Parts) (window : Contents Hel
   pub same : AreStill codec window.newest (contents window.packets) before.known.told
 
 -- after a packet was placed under a fresh number it is so
-pub can-complete : (codec : Meaning) (before : Parts) (window : Contents Held) (n : ℕ) (held : Held)
+pub can-complete : (codec : Meaning) (before : Assembly) (window : Contents Held) (n : ℕ) (held : Held)
     → IsKept codec before → ((m : ℕ) → is_available m before.window.packets ≡ true → is_inside before.window.newest m ≡ true)
     → would_of before.window n ≡ Fresh → IsSound codec held → place_of (Some held) ≡ None → window ≡ placed n held before.window → CanComplete codec before window n
 can-complete codec before window n held kept inside fresh sound plain placed_is = subst (λ (w : Contents Held). CanComplete codec before w n) (sym placed_is) (record {
@@ -83,7 +83,7 @@ completes-plain codec held passed known known' packets answers taken completes =
     subst (λ (place : ℕ → Option Place). Completes (standing codec place passed known packets) (standing codec place passed known' packets) answers) (λ i n. plain-place codec held taken n i) completes
 
 -- no run that stands begins at a passed number
-pub next-beyond : (codec : Meaning) (parts : Parts) → IsKept codec parts → All (λ run. is_passed parts.front run.first ≡ false) parts.frames
+pub next-beyond : (codec : Meaning) (parts : Assembly) → IsKept codec parts → All (λ run. is_passed parts.front run.first ≡ false) parts.frames
 next-beyond codec parts kept = All-from_recursion (λ run. is_passed parts.front run.first ≡ false) parts.frames (all-of (λ run. is_passed parts.front run.first ≡ false) parts.frames beyond) where
   not_passed : (o : Option ℕ) (run : Run) → stands_run o run ≡ true → is_passed o run.first ≡ false
   not_passed None run s = refl
@@ -100,7 +100,7 @@ pub next-among : (front : Option ℕ) (frames : List RunTold) (run : RunTold) �
 next-among front frames run is = (find-among (is_deliverable front) frames run is).0
 
 -- what a run that stands tells of: a stretch of the window's packets, all media, that joins to so many octets
-pub record IsTold (codec : Meaning) (parts : Parts) (told : RunTold) : Type 0 where
+pub record IsTold (codec : Meaning) (parts : Assembly) (told : RunTold) : Type 0 where
   pub run : Run
   pub told_is : told_of run ≡ told
   pub is_run : IsRunBy codec no_layers (is_start parts.front (is_among parts.known.began)) (packets_of parts) run
@@ -111,7 +111,7 @@ placed_now window n held = contents (placed n held window).packets
 
 module _ (are : RunsAre) where
   -- each run that stands is told of such a stretch
-  pub frame-is : (codec : Meaning) (parts : Parts) (told : RunTold) → IsKept codec parts → Contains parts.frames told → IsTold codec parts told
+  pub frame-is : (codec : Meaning) (parts : Assembly) (told : RunTold) → IsKept codec parts → Contains parts.frames told → IsTold codec parts told
   frame-is codec parts told kept there =
       let r : (run : Run) × Contains (standing-by codec no_layers parts.front (is_start parts.front (is_among parts.known.began)) (packets_of parts)) run × (told_of run ≡ told) =
       map-from told_of (standing-by codec no_layers parts.front (is_start parts.front (is_among parts.known.began)) (packets_of parts)) told
@@ -119,7 +119,7 @@ module _ (are : RunsAre) where
       record { run = r.0; told_is = r.2; is_run = (standing-from are codec no_layers parts.front (is_start parts.front (is_among parts.known.began)) (packets_of parts) r.0 r.1).0 }
 
   -- the answers can be added, one after the other, once the runs below the window are dropped
-  answers-then : RunsRise → (codec : Meaning) (before : Parts) (n : ℕ) (held : Held) (answers : List RunTold)
+  answers-then : RunsRise → (codec : Meaning) (before : Assembly) (n : ℕ) (held : Held) (answers : List RunTold)
       → IsKept codec before → is_sorted nat_cmp before.window.packets ≡ true → ((m : ℕ) → is_available m before.window.packets ≡ true → is_inside before.window.newest m ≡ true)
       → would_of before.window n ≡ Fresh
       → Completes (standing codec no_layers before.front before.known (placed_now before.window n held)) (standing codec no_layers before.front (then codec before.window n held before.front before.known) (placed_now before.window n held)) answers
@@ -160,7 +160,7 @@ module _ (are : RunsAre) where
             (now-inside before.window n held inside young missing r.0.first first_there, beyond before.front r.0 s.1, later before.last_pulled before.front r.0 kept.front.ahead s.1)
 
   -- the same, by what the window and what is known are then
-  pub answers-added : RunsRise → (codec : Meaning) (before : Parts) (window : Contents Held) (known : Known) (n : ℕ) (held : Held) (answers : List RunTold)
+  pub answers-added : RunsRise → (codec : Meaning) (before : Assembly) (window : Contents Held) (known : Known) (n : ℕ) (held : Held) (answers : List RunTold)
       → IsKept codec before → is_sorted nat_cmp before.window.packets ≡ true → ((m : ℕ) → is_available m before.window.packets ≡ true → is_inside before.window.newest m ≡ true)
       → would_of before.window n ≡ Fresh → window ≡ placed n held before.window
       → known ≡ known_with codec window.newest n before.front (contents window.packets) before.known

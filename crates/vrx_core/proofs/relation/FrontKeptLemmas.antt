@@ -11,7 +11,7 @@ use Rattle.vrx_frames.specs.Front.{front_after, is_no_media}
 use Rattle.vrx_frames.specs.IsRun.{IsRunBy}
 use Rattle.vrx_frames.specs.Run.{Packets, Piece, Run, stands}
 use Rattle.vrx_core.specs.machine.Standing.{no_layers}
-use Rattle.vrx_core.specs.relation.StandsFor.{Parts}
+use Rattle.vrx_core.specs.relation.StandsFor.{Assembly}
 use Rattle.vrx_core.specs.inside.Step.{IsFront, packets_of}
 use Rattle.vrx_core.proofs.relation.MapLemmas.{some-of}
 use Rattle.vrx_core.proofs.relation.RunMoveLemmas.{run-available, stands-beyond}
@@ -26,11 +26,11 @@ pub record IsFrontOf (last front newest : Option ℕ) (packets : Packets) : Type
   pub over : (n : ℕ) → IfSome last (λ last. last < n) → IsSomeAnd front (λ front. n ≤ front) → is_inside newest n ≡ true → IsSomeAnd (at n packets) (λ content. is_no_media content ≡ true)
 
 -- it is what holds of the parts
-pub front-of : (parts : Parts) → IsFront parts → IsFrontOf parts.last_pulled parts.front parts.window.newest (packets_of parts)
+pub front-of : (parts : Assembly) → IsFront parts → IsFrontOf parts.last_pulled parts.front parts.window.newest (packets_of parts)
 front-of parts front = record { both = front.both; ahead = front.ahead; within = front.within; over = front.over }
 
 -- and back
-pub of-front : (parts : Parts) → IsFrontOf parts.last_pulled parts.front parts.window.newest (packets_of parts) → IsFront parts
+pub of-front : (parts : Assembly) → IsFrontOf parts.last_pulled parts.front parts.window.newest (packets_of parts) → IsFront parts
 of-front parts front = record { both = front.both; ahead = front.ahead; within = front.within; over = front.over }
 
 -- a front that goes on from a number isn't below it

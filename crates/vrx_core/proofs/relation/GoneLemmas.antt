@@ -11,7 +11,8 @@ use Rattle.vrx_codec.specs.Meaning.{Meaning}
 use Rattle.vrx_window.specs.Content.{Content}
 use Rattle.vrx_window.specs.Window.{Contents, at, in_window, is_available, is_too_old, newest_with, placed}
 use Rattle.vrx_frames.specs.Run.{Packets, Run, ends_frame, is_start, stands_behind}
-use Rattle.vrx_core.specs.machine.Machine.{Snapshot, after_datagram, after_pull, after_tick, last_pulled, latest, next_run, snapshots, times}
+use Rattle.vrx_core.specs.machine.Snapshot.{moved}
+use Rattle.vrx_core.specs.machine.Machine.{Snapshot, after_datagram, after_pull, last_pulled, latest, next_run, snapshots, times}
 use Rattle.vrx_core.specs.machine.Standing.{began_behind, no_layers, standing_of}
 use Rattle.vrx_core.specs.machine.Verdict.{verdict}
 use Rattle.vrx_core.specs.declared.event.Event.{Event}
@@ -40,7 +41,7 @@ abbrev pub IsSettled : Meaning → List Snapshot → Type 0
 IsSettled codec past = (latest past).standing ≡ standing_of codec (times past) (latest past).front (last_pulled (latest past).pulled) (latest past).window.packets
 
 -- a tick keeps it
-settled-tick : (codec : Meaning) (past : List Snapshot) (moment : ℕ) → IsSettled codec past → IsSettled codec (after_tick (latest past) moment ∷ past)
+settled-tick : (codec : Meaning) (past : List Snapshot) (moment : ℕ) → IsSettled codec past → IsSettled codec (moved (latest past) moment ∷ past)
 settled-tick codec past moment is = is
     ∙ sym (ap (λ (test : ℕ → Bool). standing-by codec no_layers (last_pulled (latest past).pulled) (is_start (latest past).front test) (latest past).window.packets) (began-again past))
 
@@ -140,7 +141,7 @@ unfolding snapshots
 remembers settings codec [] = record { upto = λ n there. absurd (true≢false (sym there)); gone = ((λ n there. absurd (true≢false (sym there))), tt) }
 remembers settings codec (Datagram moment octets ∷ h) =
     remembers-datagram codec (snapshots settings codec h) moment (verdict settings codec (latest (snapshots settings codec h)).window octets) (remembers settings codec h)
-remembers settings codec (Tick moment ∷ h) = same-window (latest (snapshots settings codec h)).window (times (snapshots settings codec h)) (remembers settings codec h)
+remembers settings codec (Tick moment ∷ h) = let r = same-window (latest (snapshots settings codec h)).window (times (snapshots settings codec h)) (remembers settings codec h) in record { upto = r.upto; gone = r.gone }
 remembers settings codec (Pull moment ∷ h) = remembers-pull codec (snapshots settings codec h) moment (next_run (latest (snapshots settings codec h))) (remembers settings codec h)
 
 -- a number that is neither available nor too old never stood right after the end of a frame

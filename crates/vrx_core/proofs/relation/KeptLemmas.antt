@@ -18,7 +18,7 @@ use Rattle.vrx_frames.specs.IsRun.{IsRunBy, RunsApart, RunsAre, RunsRise}
 use Rattle.vrx_frames.specs.Run.{Run, is_start, stands, stands_behind, told_of}
 use Rattle.vrx_core.specs.machine.Standing.{no_layers}
 use Rattle.vrx_core.specs.relation.Frames.{is_deliverable, next_of, runs_from}
-use Rattle.vrx_core.specs.relation.StandsFor.{Parts, shapes_of}
+use Rattle.vrx_core.specs.relation.StandsFor.{Assembly, shapes_of}
 use Rattle.vrx_core.specs.inside.Step.{AreTaken, IsKept, IsPulledAs, IsTakenAs, counted, lowest_of, packets_of, with_runs}
 use Rattle.vrx_core.proofs.relation.ListLemmas.{filter-map, find-among, map-from, rises-from}
 use Rattle.vrx_core.proofs.relation.RunMoveLemmas.{standing-by, standing-from, stands-beyond}
@@ -39,13 +39,12 @@ reaches-more events events' None more reach = tt
 reaches-more events events' (Some newest) more reach = (reach.0, omega (arith, reach.1))
 
 -- a new engine's parts
-pub kept-new : (codec : Meaning) (parts : Parts) → parts.events ≡ 0 → parts.window ≡ nothing → parts.known ≡ nothing_told → parts.frames ≡ []
+pub kept-new : (codec : Meaning) (parts : Assembly) → parts.events ≡ 0 → parts.window ≡ nothing → parts.known ≡ nothing_told → parts.frames ≡ []
     → parts.last_pulled ≡ None → parts.front ≡ None → IsKept codec parts
 kept-new codec parts events window known frames last front = record {
   few = omega arith;
   reach = subst (λ (w : Contents Held). Reaches parts.events w.newest) (sym window) tt;
   taken = subst (λ (w : Contents Held). AreTaken codec w.packets) (sym window) (λ n held is. absurd (cc));
-  dead = ap (λ (w : Contents Held). w.dead) window;
   told = ap (λ (k : Known). k.told) known ∙ sym (ap (shapes_of codec) empty);
   newest = ap (λ (k : Known). k.newest) known ∙ sym (ap (λ (w : Contents Held). w.newest) window);
   passed = subst (λ (k : Known). IsUpTo k.passed parts.front) (sym known) tt;
@@ -59,12 +58,11 @@ kept-new codec parts events window known frames last front = record {
   empty = ap (λ (w : Contents Held). contents w.packets) window
 
 -- an event that only counts
-pub kept-counted : (codec : Meaning) (parts : Parts) (moment : ℕ) → IsKept codec parts → parts.events + 1 ≤ MOST_EVENTS → IsKept codec (counted parts moment)
+pub kept-counted : (codec : Meaning) (parts : Assembly) (moment : ℕ) → IsKept codec parts → parts.events + 1 ≤ MOST_EVENTS → IsKept codec (counted parts moment)
 kept-counted codec parts moment kept few = record {
   few = few;
   reach = reaches-more parts.events (parts.events + 1) parts.window.newest (omega arith) kept.reach;
   taken = kept.taken;
-  dead = kept.dead;
   told = kept.told;
   newest = kept.newest;
   passed = kept.passed;
@@ -75,7 +73,7 @@ kept-counted codec parts moment kept few = record {
 
 module _ (are : RunsAre) (rise : RunsRise) where
   -- a packet was taken
-  pub kept-taken : (codec : Meaning) (before after : Parts) (n : ℕ) (held : Held)
+  pub kept-taken : (codec : Meaning) (before after : Assembly) (n : ℕ) (held : Held)
       → IsKept codec before → is_sorted nat_cmp before.window.packets ≡ true → ((m : ℕ) → is_available m before.window.packets ≡ true → is_inside before.window.newest m ≡ true)
       → would_of before.window n ≡ Fresh → IsSound codec held → place_of (Some held) ≡ None → IsTakenAs codec before after n held
       → after.events ≤ MOST_EVENTS → IfSome after.window.newest (λ newest. (65536 ≤ newest) × (newest ≤ 131072 + HALF_SPACE * after.events))
@@ -84,7 +82,6 @@ module _ (are : RunsAre) (rise : RunsRise) where
     few = few;
     reach = reach;
     taken = subst (λ (w : Contents Held). AreTaken codec w.packets) (sym taken.window) (taken-placed codec before.window n held kept.taken sound plain);
-    dead = ap (λ (w : Contents Held). w.dead) taken.window ∙ ap (filter (in_window (newest_with before.window.newest n))) kept.dead;
     told = ap (λ (k : Known). k.told) known_is ∙ told-then codec before.window n held before.front before.known kept.told ∙ sym (ap (shapes_of codec) packets_are);
     newest = ap (λ (k : Known). k.newest) known_is ∙ sym (ap (λ (w : Contents Held). w.newest) taken.window);
     passed = subst (λ (k : Known). IsUpTo k.passed after.front) (sym known_is) passed_on;
@@ -136,7 +133,7 @@ module _ (are : RunsAre) (rise : RunsRise) where
         (front-taken before.window n held inside young missing before.last_pulled before.front (front-of before kept.front))))
 
   -- a run was handed out
-  pub kept-pulled : RunsApart → (codec : Meaning) (before after : Parts) (run : RunTold)
+  pub kept-pulled : RunsApart → (codec : Meaning) (before after : Assembly) (run : RunTold)
       → IsKept codec before → is_sorted nat_cmp before.window.packets ≡ true → ((m : ℕ) → is_available m before.window.packets ≡ true → is_inside before.window.newest m ≡ true)
       → next_of before.front before.frames ≡ Some run → IsPulledAs before after run
       → after.events ≡ before.events + 1 → after.events ≤ MOST_EVENTS → IsKept codec after
@@ -144,7 +141,6 @@ module _ (are : RunsAre) (rise : RunsRise) where
     few = few;
     reach = subst (λ (w : Contents Held). Reaches after.events w.newest) (sym pulled.window) (reaches-more before.events after.events before.window.newest (omega arith) kept.reach);
     taken = subst (λ (w : Contents Held). AreTaken codec w.packets) (sym pulled.window) kept.taken;
-    dead = ap (λ (w : Contents Held). w.dead) pulled.window ∙ kept.dead;
     told = ap (λ (k : Known). k.told) pulled.known ∙ kept.told ∙ sym (ap (shapes_of codec) packets_are);
     newest = ap (λ (k : Known). k.newest) pulled.known ∙ kept.newest ∙ sym (ap (λ (w : Contents Held). w.newest) pulled.window);
     passed = subst (λ (k : Known). IsUpTo k.passed after.front) (sym pulled.known) (upto-trans before.known.passed before.front after.front kept.passed passed_on);

@@ -1,4 +1,4 @@
--- Parts that stand in a past of the machine stand in its past with one event more.
+-- Assembly that stand in a past of the machine stand in its past with one event more.
 use Rattle.std.proofs.Common.{◌≡◌, ℕ, ◌<◌, ◌≤◌, Bool, true, false, ◌&&◌, ◌||◌, List, [], ◌∷◌, map, Contains, Option, Some, None, is_some, IfSome, IsSomeAnd, refl, sym, ◌∙◌, ap, subst, arith, inl, inr, ◌↔◌, ◌-◌}
 use Rattle.std.specs.Prelude.{Ok}
 use Rattle.std.specs.List.{AllByRecursion, filter, find}
@@ -18,10 +18,11 @@ use Rattle.vrx_frames.specs.IsRun.{IsPiece, IsRunBy, RunsApart, RunsAre, RunsRis
 use Rattle.vrx_frames.specs.Run.{Packets, Piece, Run, begins, is_passed, is_start, runs_by, stands, stands_behind, told_of}
 use Rattle.vrx_frames.specs.declared.shape.Shape.{Shape}
 use Rattle.vrx_core.specs.machine.Deliverable.{answer}
-use Rattle.vrx_core.specs.machine.Machine.{Snapshot, after_datagram, after_pull, after_tick, last_pulled, latest, next_run, opening, snapshots, times}
+use Rattle.vrx_core.specs.machine.Machine.{Snapshot, after_datagram, after_pull, last_pulled, latest, next_run, opening, snapshots, times}
+use Rattle.vrx_core.specs.machine.Snapshot.{moved}
 use Rattle.vrx_core.specs.machine.Standing.{began_behind, no_layers, standing_of}
 use Rattle.vrx_core.specs.relation.Frames.{is_deliverable, next_of}
-use Rattle.vrx_core.specs.relation.StandsFor.{Parts, StandsIn, numbers_of, shapes_of}
+use Rattle.vrx_core.specs.relation.StandsFor.{Assembly, StandsIn, numbers_of, shapes_of}
 use Rattle.vrx_core.specs.inside.Step.{IsKept, IsPulledAs, IsTakenAs, counted, packets_of}
 use Rattle.vrx_core.specs.declared.event.Event.{Event}
 use Rattle.vrx_core.specs.declared.settings.Settings.{Settings}
@@ -45,7 +46,7 @@ map-none f None is = refl
 map-none f (Some x) is = absurd (cc)
 
 -- a new engine's parts stand at the opening
-pub stands-opening : (codec : Meaning) (parts : Parts) → parts.window ≡ nothing → parts.known ≡ nothing_told → parts.frames ≡ [] → parts.last_pulled ≡ None → parts.front ≡ None
+pub stands-opening : (codec : Meaning) (parts : Assembly) → parts.window ≡ nothing → parts.known ≡ nothing_told → parts.frames ≡ [] → parts.last_pulled ≡ None → parts.front ≡ None
     → StandsIn codec parts (opening ∷ [])
 stands-opening codec parts window known frames last front = record {
   window = ap contents_of window;
@@ -57,7 +58,7 @@ stands-opening codec parts window known frames last front = record {
 
 -- an event that only counts: it leaves what a tick leaves, and so does a datagram that isn't taken and a pull that
 -- gives nothing
-pub stands-counted : (codec : Meaning) (parts : Parts) (past : List Snapshot) (moment : ℕ) → StandsIn codec parts past → StandsIn codec (counted parts moment) (after_tick (latest past) moment ∷ past)
+pub stands-counted : (codec : Meaning) (parts : Assembly) (past : List Snapshot) (moment : ℕ) → StandsIn codec parts past → StandsIn codec (counted parts moment) (moved (latest past) moment ∷ past)
 stands-counted codec parts past moment stood = record {
   window = stood.window;
   known = record {
@@ -70,7 +71,7 @@ stands-counted codec parts past moment stood = record {
 }
 
 -- what comes of a pull that gives a run
-pub record IsNext (codec : Meaning) (before after : Parts) (past : List Snapshot) (moment : ℕ) (told : RunTold) : Type 0 where
+pub record IsNext (codec : Meaning) (before after : Assembly) (past : List Snapshot) (moment : ℕ) (told : RunTold) : Type 0 where
   pub run : Run
   -- it is the machine's, and is told so
   pub next_is : next_run (latest past) ≡ Some run
@@ -105,7 +106,7 @@ or_comm false false = refl
 module _ (are : RunsAre) (rise : RunsRise) where
   -- the runs that stand by the parts are those that stand by the machine: a number that is passed only by the front
   -- is no media, and it is kept of all available numbers whether they began
-  pub standing-same : (codec : Meaning) (parts : Parts) (times : List Packets) → IsKept codec parts → is_sorted nat_cmp parts.window.packets ≡ true
+  pub standing-same : (codec : Meaning) (parts : Assembly) (times : List Packets) → IsKept codec parts → is_sorted nat_cmp parts.window.packets ≡ true
       → ((m : ℕ) → is_available m parts.window.packets ≡ true → is_inside parts.window.newest m ≡ true)
       → parts.known.began ≡ filter (began_behind times) (numbers_of (packets_of parts))
       → standing codec no_layers parts.front parts.known (packets_of parts) ≡ standing_of codec times parts.front parts.last_pulled (packets_of parts)
@@ -151,7 +152,7 @@ module _ (are : RunsAre) (rise : RunsRise) where
 
   module _ (settings : Settings) (codec : Meaning) (h : List Event) where
     -- the machine's runs that stand are those of the parts
-    pub standing-kept : (parts : Parts) → StandsIn codec parts (snapshots settings codec h) → IsKept codec parts → is_sorted nat_cmp parts.window.packets ≡ true
+    pub standing-kept : (parts : Assembly) → StandsIn codec parts (snapshots settings codec h) → IsKept codec parts → is_sorted nat_cmp parts.window.packets ≡ true
         → ((m : ℕ) → is_available m parts.window.packets ≡ true → is_inside parts.window.newest m ≡ true)
         → (latest (snapshots settings codec h)).standing ≡ standing codec no_layers parts.front parts.known (packets_of parts)
     standing-kept parts stood kept sorted inside =
@@ -164,7 +165,7 @@ module _ (are : RunsAre) (rise : RunsRise) where
           packets_are = ap (λ (w : Contents Content). w.packets) stood.window
 
     -- the machine's next run is told as the next of the parts
-    next-told : (parts : Parts) → StandsIn codec parts (snapshots settings codec h) → IsKept codec parts → is_sorted nat_cmp parts.window.packets ≡ true
+    next-told : (parts : Assembly) → StandsIn codec parts (snapshots settings codec h) → IsKept codec parts → is_sorted nat_cmp parts.window.packets ≡ true
         → ((m : ℕ) → is_available m parts.window.packets ≡ true → is_inside parts.window.newest m ≡ true)
         → (next_of parts.front parts.frames ≡ option_map told_of (next_run (latest (snapshots settings codec h))))
         × (next_run (latest (snapshots settings codec h)) ≡ find (λ run. is_deliverable parts.front (told_of run)) (standing codec no_layers parts.front parts.known (packets_of parts)))
@@ -186,7 +187,7 @@ module _ (are : RunsAre) (rise : RunsRise) where
           ∙ ap (answer parts.last_pulled parts.front) (standing-kept parts stood kept sorted inside)
 
     -- a packet was taken
-    pub stands-taken : (before after : Parts) (n : ℕ) (held : Held) (moment : ℕ) → StandsIn codec before (snapshots settings codec h)
+    pub stands-taken : (before after : Assembly) (n : ℕ) (held : Held) (moment : ℕ) → StandsIn codec before (snapshots settings codec h)
         → IsKept codec before → is_sorted nat_cmp before.window.packets ≡ true → ((m : ℕ) → is_available m before.window.packets ≡ true → is_inside before.window.newest m ≡ true)
         → would_of before.window n ≡ Fresh → IsTakenAs codec before after n held
         → IsKept codec after → is_sorted nat_cmp after.window.packets ≡ true → ((m : ℕ) → is_available m after.window.packets ≡ true → is_inside after.window.newest m ≡ true)
@@ -268,7 +269,7 @@ module _ (are : RunsAre) (rise : RunsRise) where
           ∙ sym (ap (λ ps. filter (began_behind (ps ∷ times (snapshots settings codec h))) (numbers_of ps)) placed_are)
 
     -- a run was handed out
-    pub stands-pulled : RunsApart → (before after : Parts) (told : RunTold) (moment : ℕ) → StandsIn codec before (snapshots settings codec h)
+    pub stands-pulled : RunsApart → (before after : Assembly) (told : RunTold) (moment : ℕ) → StandsIn codec before (snapshots settings codec h)
         → IsKept codec before → is_sorted nat_cmp before.window.packets ≡ true → ((m : ℕ) → is_available m before.window.packets ≡ true → is_inside before.window.newest m ≡ true)
         → next_of before.front before.frames ≡ Some told → IsPulledAs before after told → IsKept codec after
         → IsNext codec before after (snapshots settings codec h) moment told
@@ -332,7 +333,7 @@ module _ (are : RunsAre) (rise : RunsRise) where
           ∙ sym (ap (λ (test : ℕ → Bool). filter test (numbers_of (latest (snapshots settings codec h)).window.packets)) (began-again (snapshots settings codec h)))
 
     -- nothing was due
-    pub stands-none : (parts : Parts) → StandsIn codec parts (snapshots settings codec h)
+    pub stands-none : (parts : Assembly) → StandsIn codec parts (snapshots settings codec h)
         → IsKept codec parts → is_sorted nat_cmp parts.window.packets ≡ true → ((m : ℕ) → is_available m parts.window.packets ≡ true → is_inside parts.window.newest m ≡ true)
         → next_of parts.front parts.frames ≡ None → next_run (latest (snapshots settings codec h)) ≡ None
     stands-none parts stood kept sorted inside none = map-none told_of (next_run (latest (snapshots settings codec h))) (sym (next-told parts stood kept sorted inside).0 ∙ none)

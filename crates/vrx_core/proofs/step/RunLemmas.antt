@@ -16,7 +16,7 @@ use Rattle.vrx_frames.specs.Run.{Packets, Piece, Run, told_of}
 use Rattle.vrx_core.specs.machine.Machine.{frame_of}
 use Rattle.vrx_core.specs.machine.Standing.{no_layers}
 use Rattle.vrx_core.specs.relation.Frames.{next_of}
-use Rattle.vrx_core.specs.relation.StandsFor.{Parts}
+use Rattle.vrx_core.specs.relation.StandsFor.{Assembly}
 use Rattle.vrx_core.specs.inside.Step.{packets_of}
 use Rattle.vrx_core.specs.inside.Fields.{IsFrameOf, IsWhole}
 use Rattle.vrx_core.specs.inside.Joins.{IsJoinable, is_media, join_of, part_at, part_of, parts_from}
@@ -88,7 +88,7 @@ newest-low (Some newest) m events is few reach =
     omega arith
 
 -- what tells of a run among the window's packets can be joined
-pub joinable : (codec : Meaning) (parts : Parts) (told : RunTold) → IsWhole codec parts → IsTold codec parts told → IsJoinable codec parts.window.packets told
+pub joinable : (codec : Meaning) (parts : Assembly) (told : RunTold) → IsWhole codec parts → IsTold codec parts told → IsJoinable codec parts.window.packets told
 joinable codec parts told whole is = subst (λ t. IsJoinable codec parts.window.packets t) is.told_is (record {
   sound = λ n held here. (whole.kept.taken n held here).0;
   some = is.is_run.not_empty;
@@ -119,7 +119,7 @@ joinable codec parts told whole is = subst (λ t. IsJoinable codec parts.window.
       omega arith
 
 -- the run that is next can be joined
-pub next-joinable : (are : RunsAre) (codec : Meaning) (parts : Parts) (told : RunTold) → IsWhole codec parts → next_of parts.front parts.frames ≡ Some told → IsJoinable codec parts.window.packets told
+pub next-joinable : (are : RunsAre) (codec : Meaning) (parts : Assembly) (told : RunTold) → IsWhole codec parts → next_of parts.front parts.frames ≡ Some told → IsJoinable codec parts.window.packets told
 next-joinable are codec parts told whole due = joinable codec parts told whole (frame-is are codec parts told whole.kept (next-among parts.front parts.frames told due))
 
 -- a frame of a run
@@ -129,7 +129,7 @@ same-frame told run bytes is same =
     ∙ ap (λ (b : List ℕ). record { first = run.first; last = run.last; ts = run.ts; key = run.key; bytes = b }) same
 
 -- the frame that what a run joins to makes
-pub frame-joined : (codec : Meaning) (parts : Parts) (told : RunTold) (bytes : List ℕ) → join_of codec (packets_of parts) told.first told.last ≡ Ok bytes
+pub frame-joined : (codec : Meaning) (parts : Assembly) (told : RunTold) (bytes : List ℕ) → join_of codec (packets_of parts) told.first told.last ≡ Ok bytes
     → IsFrameOf codec parts told (record { first = told.first; last = told.last; ts = told.ts; key = told.key; bytes = bytes })
 frame-joined codec parts told bytes joins run is told_is =
     let here : join_of codec (packets_of parts) run.first run.last ≡ Ok bytes = subst (λ (t : RunTold). join_of codec (packets_of parts) t.first t.last ≡ Ok bytes) (sym told_is) joins in

@@ -1,6 +1,7 @@
 -- A packet is taken under its number: what the calls of the parts ask for, and what they leave.
-use Rattle.std.proofs.Common.{◌≡◌, ℕ, ◌+◌, ◌*◌, ◌<◌, ◌≤◌, max, true, List, [], ◌∷◌, Option, Some, None, IfSome, refl, sym, subst, ap, ◌∙◌, arith}
+use Rattle.std.proofs.Common.{◌≡◌, ℕ, ◌+◌, ◌*◌, ◌<◌, ◌≤◌, max, Bool, true, List, [], ◌∷◌, Option, Some, None, IfSome, refl, sym, subst, ap, ◌∙◌, arith}
 use Rattle.std.specs.Prelude.{Ok}
+use Rattle.std.specs.List.{list_any}
 use Rattle.std.specs.List.Sorted.{IsStrictlySortedBy}
 use Rattle.std.specs.Ordering.{nat_cmp}
 use Rattle.std.proofs.lemmas.Bool.{false≢true}
@@ -20,12 +21,13 @@ use Rattle.vrx_core.specs.machine.Machine.{answer_taken, what_of}
 use Rattle.vrx_core.specs.machine.Verdict.{verdict}
 use Rattle.vrx_core.specs.machine.Standing.{no_layers}
 use Rattle.vrx_core.specs.relation.Frames.{Standing, runs_from, with_run}
-use Rattle.vrx_core.specs.relation.StandsFor.{Parts}
+use Rattle.vrx_core.specs.relation.StandsFor.{Assembly}
 use Rattle.vrx_core.specs.inside.Step.{AreTaken, IsTakenAs, lowest_of, with_runs}
-use Rattle.vrx_core.specs.inside.Fields.{AreFields, CanAddAll, ComesOf, IsCounted, IsHandled, IsNear, MayBeTaken, after_pulled, parts_of}
+use Rattle.vrx_core.specs.inside.Fields.{AreFields, CanAddAll, ComesOf, IsHandled, IsNear, IsTakenWith, MayBeTaken, after_pulled, assembly_of}
 use Rattle.vrx_core.specs.declared.count.Count.{Count}
 use Rattle.vrx_core.specs.declared.settings.Settings.{Settings}
-use Rattle.vrx_core.specs.declared.reply.What.{What}
+use Rattle.vrx_core.specs.declared.assembler.Arrival.{Arrival}
+use Rattle.vrx_core.specs.declared.assembler.Outcome.{Outcome}
 use Rattle.vrx_core.proofs.relation.CallLemmas.{CanAdd, CanBeAdded, CanComplete, answers-added, can-complete, completes-plain, taken-placed}
 use Rattle.vrx_core.proofs.relation.KeptLemmas.{kept-taken}
 use Rattle.vrx_core.proofs.relation.WindowLemmas.{window-order}
@@ -76,13 +78,13 @@ reach-on (Some newest) n events near reach =
     let high : newest ≤ 131072 + HALF_SPACE * events = reach.1 in (grind (arith), grind (arith))
 
 module _ (are : RunsAre) (rise : RunsRise) (codec : Meaning) (settings : Settings) (count : Count) (window window' : Contents Held) (known : Known) (frames : Standing) (last_pulled front extender : Option ℕ) (n : ℕ) (held : Held)
-    (fields : AreFields codec extender frames.from (parts_of settings count window known frames last_pulled front)) (may : MayBeTaken codec window n held) (placed_is : window' ≡ placed n held window) where
-  before : Parts
-  before = parts_of settings count window known frames last_pulled front
+    (fields : AreFields codec extender frames.from (assembly_of settings count window known frames last_pulled front)) (may : MayBeTaken codec window n held) (placed_is : window' ≡ placed n held window) where
+  before : Assembly
+  before = assembly_of settings count window known frames last_pulled front
 
   -- what `Runs::completed` asks for
-  pub may-complete : CanComplete codec (parts_of settings count window known frames last_pulled front) window' n
-  may-complete = can-complete codec (parts_of settings count window known frames last_pulled front) window' n held fields.whole.kept fields.whole.window.packets_inside may.fresh may.sound may.plain placed_is
+  pub may-complete : CanComplete codec (assembly_of settings count window known frames last_pulled front) window' n
+  may-complete = can-complete codec (assembly_of settings count window known frames last_pulled front) window' n held fields.whole.kept fields.whole.window.packets_inside may.fresh may.sound may.plain placed_is
 
   module _ (known' : Known) (dropped : Standing) (answers : List RunTold)
       (known_is : known' ≡ known_with codec window'.newest n front (contents window'.packets) known)
@@ -113,12 +115,12 @@ module _ (are : RunsAre) (rise : RunsRise) (codec : Meaning) (settings : Setting
     pub may-add : CanAddAll dropped.from answers dropped.runs
     may-add = can-all window'.newest front last_pulled dropped.from answers dropped.runs low high
         (subst (λ runs. CanAdd window'.newest front last_pulled answers runs) (sym runs_are)
-        (answers-added are rise codec (parts_of settings count window known frames last_pulled front) window' known' n held answers fields.whole.kept fields.whole.window.packets_rise fields.whole.window.packets_inside may.fresh placed_is known_is plain rises))
+        (answers-added are rise codec (assembly_of settings count window known frames last_pulled front) window' known' n held answers fields.whole.kept fields.whole.window.packets_rise fields.whole.window.packets_inside may.fresh placed_is known_is plain rises))
 
     module _ (count' : Count) (frames' : Standing) (front' : Option ℕ)
         (frames_from : frames'.from ≡ dropped.from) (frames_are : frames'.runs ≡ with_runs answers dropped.runs) (front_is : front' ≡ front_after front last_pulled (contents window'.packets)) where
       -- the packet was taken
-      pub was-taken : IsTakenAs codec (parts_of settings count window known frames last_pulled front) (parts_of settings count' window' known' frames' last_pulled front') n held
+      pub was-taken : IsTakenAs codec (assembly_of settings count window known frames last_pulled front) (assembly_of settings count' window' known' frames' last_pulled front') n held
       was-taken = record {
         settings = refl;
         window = placed_is;
@@ -131,12 +133,18 @@ module _ (are : RunsAre) (rise : RunsRise) (codec : Meaning) (settings : Setting
         front = front_is;
       }
 
+      -- and whether a run that it completes is a keyframe
+      pub taken-with : (key : Bool) → key ≡ list_any (λ (run : RunTold). run.key) answers
+          → (taken : IsTakenAs codec (assembly_of settings count window known frames last_pulled front) (assembly_of settings count' window' known' frames' last_pulled front') n held) × (key ≡ list_any (λ (run : RunTold). run.key) taken.answers)
+      unfolding was-taken
+      taken-with key is = (was-taken, is)
+
       -- what always holds still does
       pub fields-taken : (extender' : Option ℕ) → count.events < MOST_EVENTS → count'.events ≡ count.events + 1 → IsWindow window' → extender' ≡ greater extender n
-          → AreFields codec extender' frames'.from (parts_of settings count' window' known' frames' last_pulled front')
+          → AreFields codec extender' frames'.from (assembly_of settings count' window' known' frames' last_pulled front')
       fields-taken extender' room counts sound extends = record {
         whole = record {
-          kept = kept-taken are rise codec (parts_of settings count window known frames last_pulled front) (parts_of settings count' window' known' frames' last_pulled front') n held fields.whole.kept fields.whole.window.packets_rise fields.whole.window.packets_inside
+          kept = kept-taken are rise codec (assembly_of settings count window known frames last_pulled front) (assembly_of settings count' window' known' frames' last_pulled front') n held fields.whole.kept fields.whole.window.packets_rise fields.whole.window.packets_inside
               may.fresh may.sound may.plain was-taken (omega arith)
               (subst (λ (o : Option ℕ). IfSome o (λ m. (65536 ≤ m) × (m ≤ 131072 + HALF_SPACE * count'.events))) (sym newest_is) (subst (λ k. (65536 ≤ newest_with window.newest n) × (newest_with window.newest n ≤ 131072 + HALF_SPACE * k)) (sym counts)
               (reach-on window.newest n count.events may.near fields.whole.kept.reach)));
@@ -148,10 +156,10 @@ module _ (are : RunsAre) (rise : RunsRise) (codec : Meaning) (settings : Setting
       }
 
 -- a datagram that was taken was handled
-pub handled-taken : (codec : Meaning) (before after : Parts) (moment : ℕ) (octets : List ℕ) (what : What) (n : ℕ) (content : Content) (held : Held)
-    → verdict before.settings codec (contents_of before.window) octets ≡ Ok (n, content) → content_of held ≡ content → MayBeTaken codec before.window n held → IsTakenAs codec before after n held → IsCounted before after moment
-    → what ≡ answer_taken n content → IsHandled codec before after moment octets what
-handled-taken codec before after moment octets what n content held is content_is may taken counts what_is = record {
+pub handled-taken : (codec : Meaning) (before after : Assembly) (moment : ℕ) (octets : List ℕ) (outcome : Outcome) (n : ℕ) (content : Content) (arrival : Arrival)
+    → verdict before.settings codec (contents_of before.window) octets ≡ Ok (n, content) → IsTakenWith codec before after moment n content arrival
+    → outcome.what ≡ answer_taken n content → outcome.arrival ≡ Some arrival → IsHandled codec before after moment octets outcome
+handled-taken codec before after moment octets outcome n content arrival is taken what_is arrival_is = record {
   answer = what_is ∙ sym (ap what_of is);
-  comes = subst (λ v. ComesOf codec before after moment v) (sym is) (held, content_is, may, taken, counts);
+  comes = subst (λ v. ComesOf codec before after moment outcome.arrival v) (sym is) (arrival, arrival_is, taken);
 }

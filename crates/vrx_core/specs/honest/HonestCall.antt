@@ -1,15 +1,21 @@
--- The honest call: what a receiver answers if an honest network brings what an honest sender sent.
-use Rattle.std.specs.Prelude.{◌≡◌, ℕ, ◌≤◌, true, List, [], ◌∷◌, slice_get, All, Contains, IfSome, IsSomeAnd, Option, Some, None}
+-- The honest call: what a receiver answers if an honest network brings what an honest sender sent. The frames pulled
+-- are the sender's. And each packet that is given up brings a request for a keyframe, unless one is outstanding or a
+-- later keyframe answers it.
+use Rattle.std.specs.Prelude.{◌≡◌, ◌⊎◌, ℕ, ◌≤◌, true, false, List, [], ◌∷◌, slice_get, All, Contains, IfSome, IsSomeAnd, Option, Some, None}
 use Rattle.std.specs.List.{filter_map}
 use Rattle.std.specs.List.Sorted.{IsStrictlyIncreasing}
+use Rattle.std.specs.Option.{IsSome}
+use Rattle.vrx_rtcp.specs.declared.feedback.Feedback.{Feedback}
 use Rattle.vrx_codec.specs.Meaning.{Meaning}
 use Rattle.vrx_core.specs.machine.SettingsFault.{fault_of}
-use Rattle.vrx_core.specs.machine.Machine.{Reply, ToDatagram, ToTick, ToPull, replies}
+use Rattle.vrx_core.specs.machine.Asking.{IsOutstanding}
+use Rattle.vrx_core.specs.machine.KeyRequest.{is_answered}
+use Rattle.vrx_core.specs.machine.Machine.{Reply, ToDatagram, ToTick, ToPull, Snapshot, latest, snapshots, replies}
 use Rattle.vrx_core.specs.honest.Sender.{SentFrame, Sender}
 use Rattle.vrx_core.specs.honest.Chain.{InChain}
 use Rattle.vrx_core.specs.honest.HonestSender.{HonestSender}
-use Rattle.vrx_core.specs.honest.HonestNetwork.{Origin, HonestNetwork}
-use Rattle.vrx_core.specs.honest.Ready.{Ready}
+use Rattle.vrx_core.specs.honest.HonestNetwork.{Origin, HonestNetwork, taken}
+use Rattle.vrx_core.specs.honest.Ready.{IsNumber, Ready}
 use Rattle.vrx_core.specs.declared.settings.Settings.{Settings}
 use Rattle.vrx_core.specs.declared.event.Event.{Event}
 use Rattle.vrx_core.specs.declared.event.Event.TheVariants.{Datagram, Tick, Pull}
@@ -77,8 +83,43 @@ abbrev pub AfterReferences : Sender → List ℕ → List ℕ → Type 0
 AfterReferences sender before [] = Unit {0}
 AfterReferences sender before (f ∷ fs) = ((g : ℕ) → InChain sender f g → Contains before g) × IfSome (slice_get sender.frames f) (λ frame. All (λ g. Contains before g) frame.references) × AfterReferences sender (f ∷ before) fs
 
+-- the feedback of a reply: a pull has none
+abbrev pub feedback_in : Reply → Option Feedback
+feedback_in (ToDatagram handled) = Some handled.feedback
+feedback_in (ToTick feedback) = Some feedback
+feedback_in (ToPull pulled) = None
+
+-- a reply asks for a keyframe: it has a PLI (RFC 4585 6.3.1)
+abbrev pub AsksForKey : Reply → Type 0
+AsksForKey r = IsSomeAnd (feedback_in r) (λ feedback. IsSome feedback.pli)
+
+-- a request for a keyframe, by an event of the history, is outstanding once one event more is over: it isn't 300 ms
+-- old, and no keyframe completed after it, nor with this event
+abbrev pub StaysOutstanding : Settings → Meaning → List Event → Event → Type 0
+StaysOutstanding settings codec h e =
+    let s : Snapshot = latest (snapshots settings codec (e ∷ h)) in
+    (s.key_completed ≡ false) × IsOutstanding s.now (snapshots settings codec h)
+
+-- If an event after a history gives up packet i, by the number n by which the receiver knows it, then the reply asks
+-- for a keyframe; or the number is answered, by a keyframe that begins beyond it, and stands or was pulled; or an
+-- earlier request for a keyframe is outstanding.
+abbrev pub AsksForLoss : Settings → Meaning → Sender → List Event → List Origin → Event → Origin → Reply → Type 0
+AsksForLoss settings codec sender h origins e o r =
+    let s : Snapshot = latest (snapshots settings codec (e ∷ h)) in
+    (i n : ℕ) → IsNumber sender (taken settings codec (e ∷ h) (o ∷ origins)) i n → Contains s.lost n
+    → AsksForKey r ⊎ ((is_answered s n ≡ true) ⊎ StaysOutstanding settings codec h e)
+
+-- so does the reply to each of the events that follow a history
+abbrev pub LossesAsked : Settings → Meaning → Sender → List Event → List Origin → List Event → List Origin → List Reply → Type 0
+LossesAsked settings codec sender h origins [] [] [] = Unit {0}
+LossesAsked settings codec sender h origins (e ∷ es) (o ∷ os) (r ∷ rs) =
+    AsksForLoss settings codec sender h origins e o r × LossesAsked settings codec sender (e ∷ h) (o ∷ origins) es os rs
+LossesAsked settings codec sender h origins _ _ _ = ⊥
+
 -- the frames pulled are the sender's, byte for byte, in order, each at most once, from a keyframe on, and after all
--- their references. Each pull is answered by the least ready frame, or by NotReady exactly if none is ready
+-- their references. Each pull is answered by the least ready frame, or by NotReady exactly if none is ready. Each
+-- packet that is given up brings a request for a keyframe with the event that gives it up, unless one is outstanding
+-- or a later keyframe answers it
 pub record HonestCall (settings : Settings) (codec : Meaning) (sender : Sender) (events : List Event) (origins : List Origin) (replies : List Reply) : Type 0 where
   -- the place of the frame that each event gives, if it gives one
   pub given : List (Option ℕ)
@@ -87,6 +128,7 @@ pub record HonestCall (settings : Settings) (codec : Meaning) (sender : Sender) 
   pub sent : AreSent sender (places_of given) (frames_of replies)
   pub from_key : BeginsWithKey (frames_of replies)
   pub after_references : AfterReferences sender [] (places_of given)
+  pub losses : LossesAsked settings codec sender [] [] events origins replies
 
 -- every honest call is answered so, whatever settings without a fault and whatever the codec's meaning
 abbrev pub HonestCallHolds : Type 0

@@ -1,9 +1,12 @@
--- What a receiver takes and keeps in an honest call, said in the sender's terms only.
+-- What a receiver takes and keeps in an honest call, said in the sender's terms. A datagram of the sender is taken
+-- exactly if its packet is in reach, and was neither taken before nor given up: the receiver doesn't wait any longer
+-- for a packet that it gave up, and drops it if it comes.
 use Rattle.std.specs.Prelude.{◌≡◌, ℕ, ◌+◌, ◌<◌, ◌↔◌, true, List, [], ◌∷◌, slice_get, Contains, Some, None, IsSomeAnd}
 use Rattle.vrx_codec.specs.Meaning.{Meaning}
 use Rattle.vrx_num.specs.declared.limits.TheConstants.{WINDOW, HALF_SPACE}
 use Rattle.vrx_window.specs.Window.{at, is_available}
 use Rattle.vrx_core.specs.machine.SettingsFault.{fault_of}
+use Rattle.vrx_core.specs.machine.GivenUp.{is_lost}
 use Rattle.vrx_core.specs.machine.Machine.{answer_taken, latest, snapshots, reply, what_in}
 use Rattle.vrx_core.specs.honest.Sender.{Sender}
 use Rattle.vrx_core.specs.honest.WireForm.{brought_by}
@@ -14,11 +17,21 @@ use Rattle.vrx_core.specs.declared.settings.Settings.{Settings}
 use Rattle.vrx_core.specs.declared.event.Event.{Event}
 use Rattle.vrx_core.specs.declared.event.Event.TheVariants.{Datagram, Tick, Pull}
 
--- packet i is one to take, after these packets were taken: no packet was, or it is none of them, fewer than 2,048
--- places below the greatest of them, and fewer than 32,768 above it
-abbrev pub IsToTake : ℕ → List ℕ → Type 0
-IsToTake i [] = Unit {0}
-IsToTake i (j ∷ js) = (i < greatest (j ∷ js) + HALF_SPACE) × (greatest (j ∷ js) < i + WINDOW) × (Contains (j ∷ js) i → ⊥)
+-- packet i is in reach, after these packets were taken: none was, or it lies fewer than 2,048 places below the
+-- greatest of them, and fewer than 32,768 above it
+abbrev pub IsInReach : ℕ → List ℕ → Type 0
+IsInReach i [] = Unit {0}
+IsInReach i (j ∷ js) = (i < greatest (j ∷ js) + HALF_SPACE) × (greatest (j ∷ js) < i + WINDOW)
+
+-- packet i was given up, by an event of a history: the number by which the receiver knows it was
+abbrev pub WasGivenUp : Settings → Meaning → Sender → List Event → List Origin → ℕ → Type 0
+WasGivenUp settings codec sender h origins i = (n : ℕ) × IsNumber sender (taken settings codec h origins) i n × (is_lost (snapshots settings codec h) n ≡ true)
+
+-- packet i is one to take, after a history: it is in reach, and was neither taken before nor given up
+pub record IsToTake (settings : Settings) (codec : Meaning) (sender : Sender) (h : List Event) (origins : List Origin) (i : ℕ) : Type 0 where
+  pub in_reach : IsInReach i (taken settings codec h origins)
+  pub not_taken : Contains (taken settings codec h origins) i → ⊥
+  pub not_given_up : WasGivenUp settings codec sender h origins i → ⊥
 
 -- packet i is one to keep: it was taken, and lies fewer than 2,048 places below the greatest packet taken
 abbrev pub IsToKeep : ℕ → List ℕ → Type 0
@@ -39,7 +52,7 @@ pub record KeepsRightly (settings : Settings) (codec : Meaning) (sender : Sender
 -- what a datagram that brings packet i of the sender meets after a history
 pub record TakesPacket (settings : Settings) (codec : Meaning) (sender : Sender) (h : List Event) (origins : List Origin) (moment : ℕ) (octets : List ℕ) (i : ℕ) : Type 0 where
   -- it is taken exactly if its packet is one to take
-  pub exactly : (takes settings codec h octets ≡ true) ↔ IsToTake i (taken settings codec h origins)
+  pub exactly : (takes settings codec h octets ≡ true) ↔ IsToTake settings codec sender h origins i
   -- if it is taken, it is answered as what it brings, by the number by which the receiver knows the packet from then
   -- on
   pub answer : takes settings codec h octets ≡ true → (n : ℕ) × IsNumber sender (i ∷ taken settings codec h origins) i n

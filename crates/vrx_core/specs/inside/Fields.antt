@@ -1,11 +1,12 @@
 -- The engine's fields: the parts that they stand for, and what always holds of them.
 use Rattle.std.specs.Prelude.{◌≡◌, ℕ, ◌+◌, ◌<◌, ◌≤◌, max, false, List, [], ◌∷◌, Option, Some, None, MatchOption, Result, Ok, Err}
+use Rattle.std.specs.List.{list_any}
 use Rattle.vrx_num.specs.declared.limits.TheConstants.{WINDOW, HALF_SPACE}
 use Rattle.vrx_codec.specs.Meaning.{Meaning}
 use Rattle.vrx_codec.specs.declared.run.Run.{Run as RunTold}
 use Rattle.vrx_window.specs.Content.{Content, content_of, contents_of}
 use Rattle.vrx_window.specs.IsWindow.{IsWindow}
-use Rattle.vrx_window.specs.Sound.{IsSound, place_of}
+use Rattle.vrx_window.specs.Sound.{IsSound as IsSoundHeld, place_of}
 use Rattle.vrx_window.specs.Window.{Contents, would_of}
 use Rattle.vrx_window.specs.declared.held.Held.{Held}
 use Rattle.vrx_window.specs.declared.placing.Placing.TheVariants.{Fresh}
@@ -16,8 +17,12 @@ use Rattle.vrx_core.specs.machine.Machine.{frame_of, what_of}
 use Rattle.vrx_core.specs.machine.Standing.{no_layers}
 use Rattle.vrx_core.specs.machine.Verdict.{verdict}
 use Rattle.vrx_core.specs.relation.Frames.{Standing, next_of, stands, with_run}
-use Rattle.vrx_core.specs.relation.StandsFor.{Parts}
+use Rattle.vrx_core.specs.relation.StandsFor.{Assembly, Wanted}
 use Rattle.vrx_core.specs.inside.Step.{IsKept, IsPulledAs, IsTakenAs, counted, lowest_of, packets_of}
+use Rattle.vrx_core.specs.relation.Order.{greatest_of}
+use Rattle.vrx_core.specs.inside.Wants.{AreFresh, lost_from}
+use Rattle.vrx_core.specs.declared.assembler.Arrival.{Arrival}
+use Rattle.vrx_core.specs.declared.assembler.Outcome.{Outcome}
 use Rattle.vrx_core.specs.declared.count.Count.{Count}
 use Rattle.vrx_core.specs.declared.settings.Settings.{Settings}
 use Rattle.vrx_core.specs.declared.original.NotTaken.{NotTaken}
@@ -25,8 +30,8 @@ use Rattle.vrx_core.specs.declared.reply.What.{What}
 use Rattle.vrx_core.specs.declared.reply.Frame.{Frame}
 
 -- the parts that fields stand for
-abbrev pub parts_of : Settings → Count → Contents Held → Known → Standing → (last_pulled front : Option ℕ) → Parts
-parts_of settings count window known frames last_pulled front = record {
+abbrev pub assembly_of : Settings → Count → Contents Held → Known → Standing → (last_pulled front : Option ℕ) → Assembly
+assembly_of settings count window known frames last_pulled front = record {
   settings = settings;
   events = count.events;
   clock = count.clock;
@@ -38,7 +43,7 @@ parts_of settings count window known frames last_pulled front = record {
 }
 
 -- parts as they always are, over a window as it always is
-pub record IsWhole (codec : Meaning) (parts : Parts) : Type 0 where
+pub record IsWhole (codec : Meaning) (parts : Assembly) : Type 0 where
   pub kept : IsKept codec parts
   pub window : IsWindow parts.window
 
@@ -49,7 +54,7 @@ after_pulled (Some last) = last + 1
 
 -- What always holds of the fields. The extender has the window's newest number. The buffer takes runs from the
 -- window's lowest number on, or from one beyond it, which is at most the number after the last number pulled.
-pub record AreFields (codec : Meaning) (extender : Option ℕ) (from : ℕ) (parts : Parts) : Type 0 where
+pub record AreFields (codec : Meaning) (extender : Option ℕ) (from : ℕ) (parts : Assembly) : Type 0 where
   pub whole : IsWhole codec parts
   pub newest : extender ≡ parts.window.newest
   pub low : lowest_of parts.window.newest ≤ from
@@ -63,11 +68,11 @@ IsNear newest n = MatchOption newest ((65536 ≤ n) × (n < 131072)) (λ m. (m <
 pub record MayBeTaken (codec : Meaning) (window : Contents Held) (n : ℕ) (held : Held) : Type 0 where
   pub fresh : would_of window n ≡ Fresh
   pub near : IsNear window.newest n
-  pub sound : IsSound codec held
+  pub sound : IsSoundHeld codec held
   pub plain : place_of (Some held) ≡ None
 
 -- the parts after one were counted, at this moment
-pub record IsCounted (before after : Parts) (moment : ℕ) : Type 0 where
+pub record IsCounted (before after : Assembly) (moment : ℕ) : Type 0 where
   pub events : after.events ≡ before.events + 1
   pub clock : after.clock ≡ max before.clock moment
 
@@ -76,25 +81,47 @@ abbrev pub CanAddAll : (from : ℕ) → (answers runs : List RunTold) → Type 0
 CanAddAll from [] runs = Unit {0}
 CanAddAll from (run ∷ more) runs = ((from ≤ run.first) × (run.first < from + WINDOW) × (stands run.first runs ≡ false)) × CanAddAll from more (with_run run runs)
 
--- what comes of a verdict: a datagram that isn't taken counts only; one that is taken is held under its number
-abbrev pub ComesOf : Meaning → (before after : Parts) → ℕ → Result (ℕ × Content) NotTaken → Type 0
-ComesOf codec before after moment (Err left) = after ≡ counted before moment
-ComesOf codec before after moment (Ok (n, content)) = (held : Held) × (content_of held ≡ content) × MayBeTaken codec before.window n held × IsTakenAs codec before after n held × IsCounted before after moment
+-- what a packet that is taken under n brings beside its answer: the newest number before, the greatest number that is
+-- given up with it, and whether one of the runs that it completes is a keyframe
+pub record IsArrival (before : Assembly) (n : ℕ) (answers : List RunTold) (arrival : Arrival) : Type 0 where
+  pub number_is : arrival.number ≡ n
+  pub newest_is : arrival.newest ≡ before.window.newest
+  pub lost_is : arrival.lost ≡ greatest_of (lost_from before.window before.front n)
+  pub key_is : arrival.key ≡ list_any (λ run. run.key) answers
+
+-- a datagram was taken: it is held under its number
+pub record IsTakenWith (codec : Meaning) (before after : Assembly) (moment n : ℕ) (content : Content) (arrival : Arrival) : Type 0 where
+  pub held : Held
+  pub content_is : content_of held ≡ content
+  pub may : MayBeTaken codec before.window n held
+  pub taken : IsTakenAs codec before after n held
+  pub counts : IsCounted before after moment
+  pub arrives : IsArrival before n taken.answers arrival
+
+-- what comes of a verdict: a datagram that isn't taken counts only
+abbrev pub ComesOf : Meaning → (before after : Assembly) → ℕ → Option Arrival → Result (ℕ × Content) NotTaken → Type 0
+ComesOf codec before after moment arrival (Err left) = (arrival ≡ None) × (after ≡ counted before moment)
+ComesOf codec before after moment arrival (Ok (n, content)) = (a : Arrival) × (arrival ≡ Some a) × IsTakenWith codec before after moment n content a
 
 -- a datagram was handled, by its verdict
-pub record IsHandled (codec : Meaning) (before after : Parts) (moment : ℕ) (octets : List ℕ) (what : What) : Type 0 where
-  pub answer : what ≡ what_of (verdict before.settings codec (contents_of before.window) octets)
-  pub comes : ComesOf codec before after moment (verdict before.settings codec (contents_of before.window) octets)
+pub record IsHandled (codec : Meaning) (before after : Assembly) (moment : ℕ) (octets : List ℕ) (outcome : Outcome) : Type 0 where
+  pub answer : outcome.what ≡ what_of (verdict before.settings codec (contents_of before.window) octets)
+  pub comes : ComesOf codec before after moment outcome.arrival (verdict before.settings codec (contents_of before.window) octets)
 
 -- a frame is the run that these parts tell of
-abbrev pub IsFrameOf : Meaning → Parts → RunTold → Frame → Type 0
+abbrev pub IsFrameOf : Meaning → Assembly → RunTold → Frame → Type 0
 IsFrameOf codec parts told frame = (run : Run) → IsRunBy codec no_layers (is_start parts.front (is_among parts.known.began)) (packets_of parts) run → told_of run ≡ told → frame ≡ frame_of run
 
 -- what comes of a pull, by the run that is next: without one it counts only; the run that is next is handed out
-abbrev pub ComesOfPull : Meaning → (before after : Parts) → ℕ → Option Frame → Option RunTold → Type 0
+abbrev pub ComesOfPull : Meaning → (before after : Assembly) → ℕ → Option Frame → Option RunTold → Type 0
 ComesOfPull codec before after moment frame None = (frame ≡ None) × (after ≡ counted before moment)
 ComesOfPull codec before after moment frame (Some told) = (f : Frame) × (frame ≡ Some f) × IsFrameOf codec before told f × IsPulledAs before after told × IsCounted before after moment
 
 -- a pull was answered by this frame, or by none
-abbrev pub IsHandedOut : Meaning → (before after : Parts) → ℕ → Option Frame → Type 0
+abbrev pub IsHandedOut : Meaning → (before after : Assembly) → ℕ → Option Frame → Type 0
 IsHandedOut codec before after moment frame = ComesOfPull codec before after moment frame (next_of before.front before.frames)
+
+-- what always holds of an engine: each missing number is below the newest one, and may be placed
+pub record IsSound (codec : Meaning) (assembly : Assembly) (wanted : Wanted) : Type 0 where
+  pub whole : IsWhole codec assembly
+  pub fresh : AreFresh assembly.window wanted.asks

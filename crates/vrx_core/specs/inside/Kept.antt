@@ -8,7 +8,9 @@ use Rattle.vrx_num.specs.declared.limits.TheConstants.{WINDOW}
 use Rattle.vrx_codec.specs.declared.run.Run.{Run}
 use Rattle.vrx_window.specs.Numbered.{Numbered}
 use Rattle.vrx_window.specs.Window.{is_inside}
+use Rattle.vrx_num.specs.Extended.{greater}
 use Rattle.vrx_core.specs.relation.Frames.{Standing}
+use Rattle.vrx_core.specs.relation.Order.{greatest_of}
 
 -- the number at which the window begins: the one after the greatest that is gone
 abbrev pub from_of : Option ℕ → ℕ
@@ -63,3 +65,18 @@ plain (Some run) = if run.key || is_none run.layers then Some run else None
 abbrev pub due_of : Option ℕ → List Run → Option Run
 due_of None runs = None
 due_of (Some front) runs = plain (find (λ run. run.first == front + 1) runs)
+
+-- the greatest first number of a keyframe, with one run more
+abbrev pub greatest_with : Option ℕ → Run → Option ℕ
+greatest_with greatest run = if run.key then greater greatest run.first else greatest
+
+-- the number, if it isn't below another
+abbrev pub unless_below : ℕ → Option ℕ → Option ℕ
+unless_below from None = None
+unless_below from (Some n) = if nat_lt n from then None else Some n
+
+-- and the greatest first number of a keyframe that was ever added is known: it is that of those that stand, unless it is
+-- gone
+pub record AreKept (from : ℕ) (ring : Numbered Run) (keys : List ℕ) (greatest : Option ℕ) : Type 0 where
+  pub kept : IsKept from ring keys
+  pub greatest_is : greatest_of (key_numbers (runs_under from ring.entries)) ≡ unless_below from greatest

@@ -14,14 +14,14 @@ use Rattle.vrx_frames.specs.Front.{front_after, is_no_media}
 use Rattle.vrx_frames.specs.Completed.{Completes, IsUpTo, is_among, known_with, standing}
 use Rattle.vrx_core.specs.machine.Standing.{no_layers}
 use Rattle.vrx_core.specs.relation.Frames.{runs_from, with_run}
-use Rattle.vrx_core.specs.relation.StandsFor.{Parts, shapes_of}
+use Rattle.vrx_core.specs.relation.StandsFor.{Assembly, shapes_of}
 
 -- the parts after one event more, at this moment
-abbrev pub counted : Parts → ℕ → Parts
+abbrev pub counted : Assembly → ℕ → Assembly
 counted parts moment = record parts { events = parts.events + 1; clock = max parts.clock moment }
 
 -- the packets of the parts, by their contents
-abbrev pub packets_of : Parts → Packets
+abbrev pub packets_of : Assembly → Packets
 packets_of parts = contents parts.window.packets
 
 -- the runs, with these put in their places one after the other
@@ -36,7 +36,7 @@ lowest_of (Some newest) = newest + 1 - WINDOW
 
 -- A packet was taken under a number: it is placed; the runs that it completes, with the front before, are added to
 -- those that are left in the window; and the front goes on.
-pub record IsTakenAs (codec : Meaning) (before after : Parts) (n : ℕ) (held : Held) : Type 0 where
+pub record IsTakenAs (codec : Meaning) (before after : Assembly) (n : ℕ) (held : Held) : Type 0 where
   pub settings : after.settings ≡ before.settings
   pub window : after.window ≡ placed n held before.window
   pub known : after.known ≡ known_with codec after.window.newest n before.front (packets_of after) before.known
@@ -49,7 +49,7 @@ pub record IsTakenAs (codec : Meaning) (before after : Parts) (n : ℕ) (held : 
   pub front : after.front ≡ front_after before.front before.last_pulled (packets_of after)
 
 -- A run was handed out: it and the runs that begin before it are gone, and the front goes on.
-pub record IsPulledAs (before after : Parts) (run : RunTold) : Type 0 where
+pub record IsPulledAs (before after : Assembly) (run : RunTold) : Type 0 where
   pub settings : after.settings ≡ before.settings
   pub window : after.window ≡ before.window
   pub known : after.known ≡ before.known
@@ -64,7 +64,7 @@ AreTaken codec packets = (n : ℕ) (held : Held) → at n packets ≡ Some held 
 -- the front, beside the last number of the last frame pulled: there is one exactly if a frame was pulled, and it isn't
 -- below that number, nor above the newest number; and each number of the window after the last number pulled, up to
 -- the front, is available and no media
-pub record IsFront (parts : Parts) : Type 0 where
+pub record IsFront (parts : Assembly) : Type 0 where
   pub both : is_some parts.front ≡ is_some parts.last_pulled
   pub ahead : IsUpTo parts.last_pulled parts.front
   pub within : IsUpTo parts.front parts.window.newest
@@ -72,11 +72,10 @@ pub record IsFront (parts : Parts) : Type 0 where
       → IsSomeAnd (at n (packets_of parts)) (λ content. is_no_media content ≡ true)
 
 -- what always holds of the parts, whatever came
-pub record IsKept (codec : Meaning) (parts : Parts) : Type 0 where
+pub record IsKept (codec : Meaning) (parts : Assembly) : Type 0 where
   pub few : parts.events ≤ MOST_EVENTS
   pub reach : IfSome parts.window.newest (λ newest. (65536 ≤ newest) × (newest ≤ 131072 + HALF_SPACE * parts.events))
   pub taken : AreTaken codec parts.window.packets
-  pub dead : parts.window.dead ≡ []
   -- all that is held is known, as of the newest number, and by a front that isn't beyond the present one
   pub told : parts.known.told ≡ shapes_of codec (packets_of parts)
   pub newest : parts.known.newest ≡ parts.window.newest

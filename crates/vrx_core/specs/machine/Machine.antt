@@ -1,13 +1,20 @@
--- The machine: the reply to an event after a history, and what is left after it. It asks for nothing and gives
--- nothing up.
-use Rattle.std.specs.Prelude.{ℕ, max, List, [], ◌∷◌, map, Option, Some, None, Result, Ok, Err}
+-- The machine: the reply to an event after a history, and what is left after it.
+use Rattle.std.specs.Prelude.{ℕ, Bool, true, false, not, List, [], ◌∷◌, Option, Some, None, Result, Ok, Err}
+use Rattle.std.specs.List.{list_any}
+use Rattle.arrayvec.specs.ArrayVec.{ArrayVec}
+use Rattle.vrx_rtcp.specs.Feedback.{nack_octets, pli_octets}
 use Rattle.vrx_rtcp.specs.declared.feedback.Feedback.{Feedback}
 use Rattle.vrx_codec.specs.Meaning.{Meaning}
 use Rattle.vrx_window.specs.Content.{Content}
 use Rattle.vrx_window.specs.Content as contents
-use Rattle.vrx_window.specs.Window.{Contents, nothing, placed}
-use Rattle.vrx_frames.specs.Run.{Packets, Run}
+use Rattle.vrx_window.specs.Window.{Contents, placed, with_number}
+use Rattle.vrx_frames.specs.Run.{Run}
 use Rattle.vrx_frames.specs.Front.{front_after}
+pub use Rattle.vrx_core.specs.machine.Snapshot.{Snapshot, opening, latest, times, last_pulled}
+use Rattle.vrx_core.specs.machine.Snapshot.{moved}
+use Rattle.vrx_core.specs.machine.GivenUp.{lost_by_packet}
+use Rattle.vrx_core.specs.machine.Request.{repeated_requests, first_requests, lost_by_tick}
+use Rattle.vrx_core.specs.machine.KeyRequest.{completes_key, is_answered, is_needed, with_key_request}
 use Rattle.vrx_core.specs.machine.Verdict.{verdict}
 use Rattle.vrx_core.specs.machine.Standing.{standing_of}
 use Rattle.vrx_core.specs.machine.Deliverable.{answer}
@@ -29,34 +36,6 @@ pub data Reply : Type 0 where
   ToTick : (feedback : Feedback) → Reply
   ToPull : (pulled : Pulled) → Reply
 
--- what is left after an event: the clock; the window, with the greatest number taken, the first one, the available
--- packets and the numbers given up; the frames pulled, as runs, the newest first; the front of the passed numbers;
--- and the runs that stand
-pub record Snapshot : Type 0 where
-  pub now : ℕ
-  pub window : Contents Content
-  pub pulled : List Run
-  pub front : Option ℕ
-  pub standing : List Run
-
--- before the first event
-abbrev pub opening : Snapshot
-opening = record { now = 0; window = nothing; pulled = []; front = None; standing = [] }
-
--- the present, of what was left after each event (the newest first, the opening last)
-abbrev pub latest : List Snapshot → Snapshot
-latest [] = opening
-latest (s ∷ past) = s
-
--- the packets available at the end of each event
-abbrev pub times : List Snapshot → List Packets
-times past = map (λ s. s.window.packets) past
-
--- the last number of the last frame pulled
-abbrev pub last_pulled : List Run → Option ℕ
-last_pulled [] = None
-last_pulled (run ∷ runs) = Some run.last
-
 -- a snapshot with the front after its event, and the runs that stand then
 abbrev pub settled : Meaning → List Snapshot → Snapshot → Snapshot
 settled codec past s =
@@ -64,21 +43,39 @@ settled codec past s =
     let front : Option ℕ = front_after s.front last s.window.packets in
     record s { front = front; standing = standing_of codec (s.window.packets ∷ times past) front last s.window.packets }
 
--- what a datagram leaves: one that isn't taken moves the clock only
-abbrev pub after_datagram : Meaning → List Snapshot → ℕ → Result (ℕ × Content) NotTaken → Snapshot
-after_datagram codec past moment (Err left) = let s : Snapshot = latest past in record s { now = max s.now moment }
-after_datagram codec past moment (Ok (n, content)) = let s : Snapshot = latest past in
-    settled codec past (record s { now = max s.now moment; window = placed n content s.window })
+-- What a datagram leaves. One that isn't taken moves the clock only. One that is taken is placed; it gives up the
+-- numbers that leave the window, and asks for those that are missing now and weren't asked for; and it asks for a
+-- keyframe if it gives up a number that isn't answered.
+abbrev pub with_requests : List Snapshot → Snapshot → Snapshot
+with_requests past s =
+    let lost : List ℕ = lost_by_packet past s in
+    with_key_request (list_any (λ n. not (is_answered s n)) lost) past
+    (record s { lost = lost; asked = first_requests (s ∷ past); key_completed = completes_key (latest past).standing s.standing })
 
--- what a tick leaves: it moves the clock only
-abbrev pub after_tick : Snapshot → ℕ → Snapshot
-after_tick s moment = record s { now = max s.now moment }
+abbrev pub after_datagram : Meaning → List Snapshot → ℕ → Result (ℕ × Content) NotTaken → Snapshot
+after_datagram codec past moment (Err left) = moved (latest past) moment
+after_datagram codec past moment (Ok (n, content)) = let s : Snapshot = moved (latest past) moment in
+    with_requests past (settled codec past (record s { window = placed n content s.window }))
+
+-- numbers put in their places among numbers that rise
+abbrev pub with_numbers : List ℕ → List ℕ → List ℕ
+with_numbers [] numbers = numbers
+with_numbers (n ∷ ns) numbers = with_numbers ns (with_number n numbers)
+
+-- What a tick leaves: it gives up what was asked for ten times, asks again for what is missing, and asks for a keyframe
+-- if there is need of one.
+abbrev pub after_tick : Settings → List Snapshot → ℕ → Snapshot
+after_tick settings past moment =
+    let s : Snapshot = moved (latest past) moment in
+    let lost : List ℕ = lost_by_tick settings.interval s.now past in
+    let after : Snapshot = record s { lost = lost; asked = repeated_requests settings.interval s.now past; window = record s.window { dead = with_numbers lost s.window.dead } } in
+    with_key_request (is_needed (after ∷ past)) past after
 
 -- what a pull leaves that gives this run, or none
 abbrev pub after_pull : Meaning → List Snapshot → ℕ → Option Run → Snapshot
-after_pull codec past moment None = let s : Snapshot = latest past in record s { now = max s.now moment }
-after_pull codec past moment (Some run) = let s : Snapshot = latest past in
-    settled codec past (record s { now = max s.now moment; pulled = run ∷ s.pulled })
+after_pull codec past moment None = moved (latest past) moment
+after_pull codec past moment (Some run) = let s : Snapshot = moved (latest past) moment in
+    settled codec past (record s { pulled = run ∷ s.pulled })
 
 -- the run that a pull gives: the least that is deliverable
 abbrev pub next_run : Snapshot → Option Run
@@ -87,7 +84,7 @@ next_run s = answer (last_pulled s.pulled) s.front s.standing
 -- what an event leaves
 abbrev pub next : Settings → Meaning → List Snapshot → Event → Snapshot
 next settings codec past (Datagram moment octets) = after_datagram codec past moment (verdict settings codec (latest past).window octets)
-next settings codec past (Tick moment) = after_tick (latest past) moment
+next settings codec past (Tick moment) = after_tick settings past moment
 next settings codec past (Pull moment) = after_pull codec past moment (next_run (latest past))
 
 -- the answer to a datagram that isn't taken
@@ -110,13 +107,19 @@ what_of (Ok (n, content)) = answer_taken n content
 abbrev pub repaired_by : List Snapshot → Snapshot → List ℕ
 repaired_by past s = []
 
--- no feedback
-abbrev pub no_feedback : Feedback
-no_feedback = record { nack = None; pli = None }
+-- the NACK of these numbers, unless there is none (RFC 4585 6.2.1)
+abbrev pub nack_for : Settings → List ℕ → Option (ArrayVec ℕ)
+nack_for settings [] = None
+nack_for settings (n ∷ ns) = Some (record { items = nack_octets settings.from_ssrc settings.media_ssrc (n ∷ ns) })
 
--- the feedback that is sent after an event that led from the past to this snapshot: there is none
-abbrev pub feedback_of : List Snapshot → Snapshot → Feedback
-feedback_of past s = no_feedback
+-- the PLI, if a keyframe is asked for (RFC 4585 6.3.1)
+abbrev pub pli_for : Settings → Bool → Option (List ℕ)
+pli_for settings false = None
+pli_for settings true = Some (pli_octets settings.from_ssrc settings.media_ssrc)
+
+-- the feedback of the event that left this: at most one NACK, of all numbers that it asks for, and then at most one PLI
+abbrev pub feedback_of : Settings → Snapshot → Feedback
+feedback_of settings s = record { nack = nack_for settings s.asked; pli = pli_for settings s.key_asked }
 
 -- what became of a datagram, by the reply to it
 abbrev pub what_in : Reply → Option What
@@ -140,8 +143,8 @@ IfFrame (pulls.Frame frame) P = P frame
 
 -- the reply to an event that leads from the past to this snapshot
 abbrev pub reply_between : Settings → Meaning → List Snapshot → Snapshot → Event → Reply
-reply_between settings codec past s (Datagram moment octets) = ToDatagram (record { what = what_of (verdict settings codec (latest past).window octets); repaired = repaired_by past s; feedback = feedback_of past s })
-reply_between settings codec past s (Tick moment) = ToTick (feedback_of past s)
+reply_between settings codec past s (Datagram moment octets) = ToDatagram (record { what = what_of (verdict settings codec (latest past).window octets); repaired = repaired_by past s; feedback = feedback_of settings s })
+reply_between settings codec past s (Tick moment) = ToTick (feedback_of settings s)
 reply_between settings codec past s (Pull moment) = ToPull (pulled_of (next_run (latest past)))
 
 -- one snapshot more

@@ -1,5 +1,6 @@
 -- Lists in the order of a number that each element has.
-use Rattle.std.specs.Prelude.{ℕ, Bool, true, ◌&&◌, nat_lt, if◌then◌else◌, List, [], ◌∷◌}
+use Rattle.std.specs.Prelude.{ℕ, Bool, true, ◌&&◌, nat_lt, if◌then◌else◌, List, [], ◌∷◌, Option, None}
+use Rattle.vrx_num.specs.Extended.{greater}
 use Rattle.std.specs.List.{list_all}
 
 -- each element's number is below those of all that follow it
@@ -16,3 +17,8 @@ put_by number x (y ∷ ys) = if nat_lt (number x) (number y) then x ∷ y ∷ ys
 abbrev pub sorted_by : {X : Type 0} → (X → ℕ) → List X → List ℕ
 sorted_by number [] = []
 sorted_by number (x ∷ xs) = put_by (λ n. n) (number x) (sorted_by number xs)
+
+-- the greatest of numbers, if there is one
+abbrev pub greatest_of : List ℕ → Option ℕ
+greatest_of [] = None
+greatest_of (n ∷ ns) = greater (greatest_of ns) n

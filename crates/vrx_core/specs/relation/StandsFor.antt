@@ -1,24 +1,29 @@
 -- The engine as contracts see it, and the history that it stands for.
-use Rattle.std.specs.Prelude.{◌≡◌, ℕ, List, map, length, Option}
-use Rattle.std.specs.List.{filter}
+use Rattle.std.specs.Prelude.{◌≡◌, ℕ, Bool, if◌then◌else◌, List, [], ◌∷◌, map, length, Option, Some, None}
+use Rattle.std.specs.List.{filter, list_any}
+use Rattle.vrx_asks.specs.declared.ask.Ask.{Ask}
 use Rattle.vrx_codec.specs.Meaning.{Meaning}
 use Rattle.vrx_codec.specs.declared.run.Run.{Run as RunTold}
 use Rattle.vrx_window.specs.Content.{contents_of}
 use Rattle.vrx_window.specs.Window.{Contents}
 use Rattle.vrx_window.specs.declared.held.Held.{Held}
-use Rattle.vrx_frames.specs.Run.{Packets, told_of}
+use Rattle.vrx_frames.specs.Run.{Packets, Run, told_of}
 use Rattle.vrx_frames.specs.Shape.{shape_of}
 use Rattle.vrx_frames.specs.Completed.{Known}
 use Rattle.vrx_frames.specs.declared.shape.Shape.{Shape}
 use Rattle.vrx_core.specs.machine.History.{now}
 use Rattle.vrx_core.specs.machine.Standing.{began_behind}
+use Rattle.vrx_core.specs.machine.GivenUp.{all_lost}
+use Rattle.vrx_core.specs.machine.Request.{missing, requests}
+use Rattle.vrx_core.specs.machine.KeyRequest.{open_request}
 use Rattle.vrx_core.specs.machine.Machine.{Snapshot, latest, last_pulled, snapshots, times}
+use Rattle.vrx_core.specs.relation.Order.{greatest_of}
 use Rattle.vrx_core.specs.declared.settings.Settings.{Settings}
 use Rattle.vrx_core.specs.declared.event.Event.{Event}
 
--- the parts of an engine. It keeps no history: of what was available before, only what is known of the numbers in the
--- window
-pub record Parts : Type 0 where
+-- What an engine assembles frames of. It keeps no history: of what was available before, only what is known of the
+-- numbers in the window.
+pub record Assembly : Type 0 where
   pub settings : Settings
   pub events : ℕ
   pub clock : ℕ
@@ -43,15 +48,89 @@ pub record KnowsPast (codec : Meaning) (known : Known) (past : List Snapshot) : 
   pub began : known.began ≡ filter (began_behind (times past)) (numbers_of (latest past).window.packets)
 
 -- each part has the value that the machine gives it, of what was left after each event
-pub record StandsIn (codec : Meaning) (parts : Parts) (past : List Snapshot) : Type 0 where
+pub record StandsIn (codec : Meaning) (parts : Assembly) (past : List Snapshot) : Type 0 where
   pub window : contents_of parts.window ≡ (latest past).window
   pub known : KnowsPast codec parts.known past
   pub frames : parts.frames ≡ map told_of (latest past).standing
   pub last_pulled : parts.last_pulled ≡ last_pulled (latest past).pulled
   pub front : parts.front ≡ (latest past).front
 
+-- the assembly is that of a history
+pub record IsAssembled (codec : Meaning) (assembly : Assembly) (h : List Event) : Type 0 where
+  pub events : assembly.events ≡ length h
+  pub clock : assembly.clock ≡ now h
+  pub stands : StandsIn codec assembly (snapshots assembly.settings codec h)
+
+-- What an engine keeps of the requests: the missing numbers, each with how often it was asked for; the greatest number
+-- given up; the first number of the last keyframe pulled; whether a keyframe ever completed; and the moment of the last
+-- request for a keyframe after which none completed.
+pub record Wanted : Type 0 where
+  pub asks : List Ask
+  pub lost : Option ℕ
+  pub key_pulled : Option ℕ
+  pub keyed : Bool
+  pub key_asked : Option ℕ
+
+-- how often a number was asked for, and when last: 0 before the first request
+abbrev pub ask_of : List Snapshot → ℕ → Ask
+ask_of past n = record { number = n; times = length (requests past n); last = last_of (requests past n) } where
+  last_of : List ℕ → ℕ
+  last_of [] = 0
+  last_of (moment ∷ moments) = moment
+
+-- the first number of the last keyframe among the runs pulled, which stand the newest first
+abbrev pub last_key : List Run → Option ℕ
+last_key [] = None
+last_key (run ∷ runs) = if run.key then Some run.first else last_key runs
+
+-- what is wanted is what the machine's past gives
+pub record WantsIn (wanted : Wanted) (past : List Snapshot) : Type 0 where
+  pub asks : wanted.asks ≡ map (ask_of past) (missing past)
+  pub lost : wanted.lost ≡ greatest_of (all_lost past)
+  pub key_pulled : wanted.key_pulled ≡ last_key (latest past).pulled
+  pub keyed : wanted.keyed ≡ list_any (λ s. s.key_completed) past
+  pub key_asked : wanted.key_asked ≡ open_request past
+
+-- an engine: what it assembles, and what it wants
+pub record Parts : Type 0 where
+  pub settings : Settings
+  pub events : ℕ
+  pub clock : ℕ
+  pub window : Contents Held
+  pub known : Known
+  pub frames : List RunTold
+  pub last_pulled : Option ℕ
+  pub front : Option ℕ
+  pub wanted : Wanted
+
+-- what an engine assembles
+abbrev pub assembly_in : Parts → Assembly
+assembly_in parts = record {
+  settings = parts.settings;
+  events = parts.events;
+  clock = parts.clock;
+  window = parts.window;
+  known = parts.known;
+  frames = parts.frames;
+  last_pulled = parts.last_pulled;
+  front = parts.front;
+}
+
+-- an engine of an assembly and of what is wanted
+abbrev pub parts_of : Assembly → Wanted → Parts
+parts_of assembly wanted = record {
+  settings = assembly.settings;
+  events = assembly.events;
+  clock = assembly.clock;
+  window = assembly.window;
+  known = assembly.known;
+  frames = assembly.frames;
+  last_pulled = assembly.last_pulled;
+  front = assembly.front;
+  wanted = wanted;
+}
+
 -- an engine stands for a history
 pub record StandsFor (codec : Meaning) (parts : Parts) (h : List Event) : Type 0 where
-  pub events : parts.events ≡ length h
-  pub clock : parts.clock ≡ now h
-  pub stands : StandsIn codec parts (snapshots parts.settings codec h)
+  pub assembled : IsAssembled codec (assembly_in parts) h
+  pub wants : WantsIn parts.wanted (snapshots parts.settings codec h)

@@ -1,8 +1,6 @@
-use Rattle.vrx_core.proofs.step.FieldLemmas.{fields-new, stands-new}
+use Rattle.vrx_core.proofs.step.FreshLemmas.{fresh-none}
+use Rattle.vrx_core.proofs.step.WantedLemmas.{stands-opened}
 use Rattle.vrx_core.proofs.engine.Engine.opened.Goals as goal
 
-pub invariant_of-result : goal.invariant_of-result
-invariant_of-result g c = fields-new g.C.Codec.meaning c.args.settings c.in-Ok.window c.in-Ok-new.runs c.in-Ok-new-2.frames c.new-4.result c.in-Ok.ensures.nothing c.in-Ok-new.ensures.nothing c.in-Ok-new-2.ensures.nothing c.new-4.ensures
-
 pub returns-clause-stands : goal.returns-clause-stands
-returns-clause-stands g c = stands-new g.C.Codec.meaning c.args.settings c.in-Ok.window c.in-Ok-new.runs c.in-Ok-new-2.frames c.in-Ok.ensures.nothing c.in-Ok-new.ensures.nothing c.in-Ok-new-2.ensures.nothing
+returns-clause-stands g c = stands-opened g.C.Codec.meaning c.in_ok-assembler.assembler c.in-Ok.requests c.in_ok-assembler.ensures.stands c.in-Ok.ensures.nothing

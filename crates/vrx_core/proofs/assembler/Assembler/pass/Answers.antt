@@ -1,15 +1,15 @@
 use Rattle.std.proofs.Common.{◌≡◌, ◌<◌, Some, sym, subst}
 use Rattle.vrx_num.specs.declared.limits.TheConstants.{MOST_EVENTS}
 use Rattle.vrx_core.specs.relation.Frames.{next_of}
-use Rattle.vrx_core.specs.relation.StandsFor.{Parts}
+use Rattle.vrx_core.specs.relation.StandsFor.{Assembly}
 use Rattle.vrx_core.proofs.step.FieldLemmas.{fields-pulled}
-use Rattle.vrx_core.proofs.engine.Engine.pass.Goals as goal
+use Rattle.vrx_core.proofs.assembler.Assembler.pass.Goals as goal
 
 pub invariant_of-self : goal.invariant_of-self
 invariant_of-self g c =
     let i = c.self.inside in
     fields-pulled c.runs_are.ensures c.runs_rise.ensures c.runs_apart.ensures g.C.Codec.meaning i.settings i.count c.count.new.self i.window i.runs i.frames c.take.new.self i.last_pulled i.front c.front_after-self-inside.result i.extender c.args.run
-    c.self.invariant (subst (λ (p : Parts). next_of p.front p.frames ≡ Some c.args.run) (sym c.self.view_is) c.requires.next) (subst (λ (p : Parts). p.events < MOST_EVENTS) (sym c.self.view_is) c.requires.room)
+    c.self.invariant (subst (λ (p : Assembly). next_of p.front p.frames ≡ Some c.args.run) (sym c.self.view_is) c.requires.next) (subst (λ (p : Assembly). p.events < MOST_EVENTS) (sym c.self.view_is) c.requires.room)
     c.count.ensures.events c.take.ensures.from c.take.ensures.runs c.front_after-self-inside.ensures
 
 pub returns-clause-after : goal.returns-clause-after

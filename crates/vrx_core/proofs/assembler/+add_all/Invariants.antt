@@ -1,5 +1,5 @@
 use Rattle.std.proofs.Common.{length}
-use Rattle.vrx_core.proofs.engine.+add_all.Given as goal
+use Rattle.vrx_core.proofs.assembler.+add_all.Given as goal
 
 abbrev pub decreases-add_all : goal.decreases-add_all
 decreases-add_all l = length l.runs.now

@@ -1,0 +1,224 @@
+//! What is wanted: missing packets, and a keyframe.
+
+ghost use Rattle.std.specs.Prelude.{◌≡◌, ◌+◌, ◌-◌, ◌<◌, ◌≤◌, ◌^◌, ◌++◌, nat_lt, true, false, [], None, IfOk, IfSome};
+ghost use Rattle.std.specs.Option.{option_map_or};
+ghost use Rattle.vrx_num.specs.declared.limits.TheConstants.{WINDOW as WINDOW_SIZE};
+ghost use Rattle.vrx_asks.specs.Asks.{are_below, asked_numbers, asks_left, given_up_numbers, is_near};
+ghost use Rattle.vrx_asks.specs.IsAsks.{IsAsks};
+ghost use Rattle.vrx_core.specs.machine.GivenUp.{numbers_below};
+ghost use Rattle.vrx_core.specs.inside.Wants.{AreBelow, beyond_front, gap_from as gap_start, gap_of, is_lost_open as is_lost_open_by, is_open as is_open_by, key_taken, last_of as last_among, later_of as later_one, needs_key, nothing_wanted, asks_key, wanted_pulled, wanted_taken, wanted_ticked, with_all_missing};
+
+use crate::assembler::Arrival;
+use crate::keys::later;
+use arrayvec::ArrayVec;
+use std::alloc::Global;
+use std::marker::Model;
+use vrx_asks::{Asks, Due, KeyAsk};
+use vrx_num::NoMemory;
+use vrx_num::limits::WINDOW;
+
+/// What an event asks for: packets by their numbers, and a keyframe.
+#[derive(Debug, Drop)]
+pub(crate) struct Asked {
+    pub(crate) numbers: ArrayVec<u64, 2048>,
+    pub(crate) key: bool,
+}
+
+/// What a tick asks for, and what it gives up.
+#[derive(Debug, Drop)]
+pub(crate) struct Ticked {
+    pub(crate) numbers: ArrayVec<u64, 2048>,
+    pub(crate) lost: ArrayVec<u64, 2048>,
+    pub(crate) key: bool,
+}
+
+/// What is wanted of the sender.
+///
+/// It has the missing numbers, each with how often it was asked for; the greatest number given up; the first number of
+/// the last keyframe pulled; whether a keyframe ever completed; and when a keyframe was last asked for.
+#[derive(Drop)]
+pub(crate) struct Requests {
+    asks: Asks,
+    lost: Option<u64>,
+    key_pulled: Option<u64>,
+    keyed: bool,
+    key_ask: KeyAsk,
+}
+
+impl Model for Requests {
+    ghost use Rattle.vrx_core.specs.relation.StandsFor.{Wanted};
+
+    ghost Value = { Wanted };
+
+    ghost view = { λ a. record { asks = a.asks; lost = a.lost; key_pulled = a.key_pulled; keyed = a.keyed; key_asked = a.key_ask } };
+}
+
+/// The greater of two numbers, if there are any.
+fn later_of(one: Option<u64>, other: Option<u64>) -> Option<u64>
+    ensures { result ≡ later_one one other }
+{
+    match one {
+        None => other,
+        Some(n) => later(other, n),
+    }
+}
+
+/// The last of numbers, if there is one.
+fn last_of(numbers: &[u64]) -> Option<u64>
+    ensures { result ≡ last_among numbers.now }
+{
+    numbers.last().copied()
+}
+
+/// Whether n isn't answered by keyframes that begin at these numbers, if there are any.
+fn is_open(standing: Option<u64>, pulled: Option<u64>, n: u64) -> bool
+    ensures { result ≡ is_open_by standing pulled n }
+{
+    !standing.is_some_and(|key| n < key) && !pulled.is_some_and(|key| n < key)
+}
+
+/// Whether a number was given up that isn't answered, if this is the greatest one.
+fn is_lost_open(standing: Option<u64>, pulled: Option<u64>, lost: Option<u64>) -> bool
+    ensures { result ≡ is_lost_open_by standing pulled lost }
+{
+    match lost {
+        Some(n) => is_open(standing, pulled, n),
+        None => false,
+    }
+}
+
+/// Where the numbers begin that are missing once the newest number has moved from one to another.
+fn gap_from(before: Option<u64>, after: u64) -> u64
+    requires short { IfSome before (λ m. m < 2 ^ 62) }
+    ensures { result ≡ gap_start before after }
+{
+    match before {
+        None => after,
+        Some(before) => (before + 1).max(after.saturating_sub(WINDOW - 1)),
+    }
+}
+
+/// The numbers from one on, below another, are missing, and are asked for at this moment.
+fn notice(asks: &mut Asks, from: u64, below: u64, now: u64) -> ArrayVec<u64, 2048>
+    requires above { are_below from asks.old ≡ true }
+    requires near { is_near (below - 1) asks.old ≡ true }
+    requires few { below < from + WINDOW_SIZE }
+    ensures noticed { asks.new ≡ with_all_missing now (numbers_below from below) asks.old }
+    ensures numbers { result.items ≡ numbers_below from below }
+{
+    let mut numbers = ArrayVec::new();
+    for n in from..below {
+        asks.noticed(n, now);
+        numbers.push(n);
+    }
+    numbers
+}
+
+/// What is due at a moment. Its contract also says what always holds of the missing numbers.
+fn due_of(asks: &mut Asks, now: u64, interval: u32) -> Due
+    ensures ask { result.ask.items ≡ asked_numbers now interval asks.old }
+    ensures give_up { result.give_up.items ≡ given_up_numbers now interval asks.old }
+    ensures left { asks.new ≡ asks_left now interval asks.old }
+    ensures sound { IsAsks asks.old }
+{
+    if asks.is_empty() {
+        return Due {
+            ask: ArrayVec::new(),
+            give_up: ArrayVec::new(),
+        };
+    }
+    asks.due(now, interval)
+}
+
+impl Requests {
+    /// Nothing is wanted. Only this call takes memory.
+    pub(crate) fn new(alloc: Global) -> Result<Requests, NoMemory>
+        ensures nothing { IfOk result (λ requests. requests ≡ nothing_wanted) }
+    {
+        Ok(Requests {
+            asks: Asks::new(alloc)?,
+            lost: None,
+            key_pulled: None,
+            keyed: false,
+            key_ask: KeyAsk::new(),
+        })
+    }
+
+    /// A packet was taken: what it is waits no more, and what it makes missing is asked for. Numbers that are passed, or
+    /// that left the window, aren't missing any more. `key` is the greatest first number of a keyframe that stands.
+    pub(crate) fn taken(
+        &mut self,
+        now: u64,
+        arrival: &Arrival,
+        front: Option<u64>,
+        key: Option<u64>,
+    ) -> Asked
+        requires below { AreBelow arrival.now.newest self.old.asks }
+        requires short { IfSome arrival.now.newest (λ m. m < 2 ^ 62) }
+        ensures wanted { self.new ≡ wanted_taken now arrival.now front key self.old }
+        ensures numbers { result.numbers.items ≡ gap_of arrival.now.newest arrival.now.number }
+        ensures key { result.key ≡ key_taken now arrival.now key self.old }
+        ensures sound { IsAsks self.old.asks }
+    {
+        // What always holds of the missing numbers is a clause of this call.
+        let _ = self.asks.is_empty();
+        let after = arrival.newest.unwrap_or(arrival.number).max(arrival.number);
+        self.asks.arrived(arrival.number);
+        self.asks.passed(after.saturating_sub(WINDOW));
+        self.pass(front);
+        let numbers = notice(&mut self.asks, gap_from(arrival.newest, after), after, now);
+        self.lost = later_of(arrival.lost, self.lost);
+        if arrival.key {
+            self.keyed = true;
+            self.key_ask.completed();
+        }
+        let wants = is_lost_open(key, self.key_pulled, arrival.lost);
+        Asked {
+            numbers,
+            key: self.key_ask.decide(now, wants),
+        }
+    }
+
+    /// Time has passed: what is due is asked for again, or given up. `started` says whether a packet was ever taken.
+    pub(crate) fn ticked(
+        &mut self,
+        now: u64,
+        interval: u32,
+        started: bool,
+        key: Option<u64>,
+    ) -> Ticked
+        ensures wanted { self.new ≡ wanted_ticked now interval started key self.old }
+        ensures numbers { result.numbers.items ≡ asked_numbers now interval self.old.asks }
+        ensures lost { result.lost.items ≡ given_up_numbers now interval self.old.asks }
+        ensures key { result.key ≡ asks_key now (needs_key now interval started key self.old) self.old.key_asked }
+        ensures sound { IsAsks self.old.asks }
+    {
+        let due = due_of(&mut self.asks, now, interval);
+        self.lost = later_of(last_of(due.give_up.as_slice()), self.lost);
+        let wants = is_lost_open(key, self.key_pulled, self.lost) || (started && !self.keyed);
+        Ticked {
+            numbers: due.ask,
+            lost: due.give_up,
+            key: self.key_ask.decide(now, wants),
+        }
+    }
+
+    /// A frame was pulled: it is a keyframe or not, and its first number is this.
+    pub(crate) fn pulled(&mut self, front: Option<u64>, key: bool, first: u64)
+        ensures wanted { self.new ≡ wanted_pulled front key first self.old }
+    {
+        self.pass(front);
+        if key {
+            self.key_pulled = Some(first);
+        }
+    }
+
+    /// The numbers up to the front aren't missing any more.
+    fn pass(&mut self, front: Option<u64>)
+        ensures passed { self.new ≡ record self.old { asks = beyond_front front self.old.asks } }
+    {
+        if let Some(front) = front {
+            self.asks.passed(front);
+        }
+    }
+}
