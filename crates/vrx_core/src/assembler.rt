@@ -180,7 +180,9 @@ fn greatest_lost(window: &Window, front: Option<u64>, n: u64) -> Option<u64>
     let (Some(first), Some(newest)) = (window.first(), window.newest()) else {
         return None;
     };
-    let low = after(front).max(first).max(newest.saturating_sub(WINDOW - 1));
+    let low = after(front)
+        .max(first)
+        .max(newest.saturating_sub(WINDOW - 1));
     let high = newest.max(n).saturating_sub(WINDOW - 1);
     for back in 0..high.saturating_sub(low) {
         let last = high - 1 - back;

@@ -9,6 +9,7 @@ mod assembler;
 mod count;
 mod engine;
 mod event;
+mod feedback_laws;
 mod frames;
 mod front;
 mod held;
@@ -28,6 +29,10 @@ mod verdict;
 
 pub use engine::Engine;
 pub use event::{Event, EventBytes};
+pub use feedback_laws::{
+    asked_are_missing, few_requests, key_requests_apart, losses_ask, lost_stays, missing_are,
+    requests_apart,
+};
 pub use laws::{honest_call, honest_runs, honest_taken};
 pub use meanings::{
     answers_are, available_are, clock_is, none_passed, passed_exactly, passed_stays, pulled_rise,

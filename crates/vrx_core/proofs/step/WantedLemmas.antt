@@ -118,32 +118,32 @@ module _ (are : RunsAre) (rise : RunsRise) (codec : Meaning) (before after : Ass
       ∙ ap (λ f. key_with (max (latest past).now moment) (greatest_of (key_numbers f)) (Some arrival) wanted) stood.frames
       ∙ ap (λ b. asks_key (max (latest past).now moment) (is_lost_open (greatest_of (key_numbers (map told_of s.standing))) wanted.key_pulled arrival.lost) (open_after b wanted.key_asked)) completed
       ∙ taken-asks codec past moment n content wanted falls stands.wants.key_pulled stands.wants.key_asked arrival.lost lost_now) where
-    s : Snapshot
-    s = after_datagram codec past moment (Ok (n, content))
+        s : Snapshot
+        s = after_datagram codec past moment (Ok (n, content))
 
-    arrives : IsArrival before n taken.taken.answers arrival
-    arrives = taken.arrives
+        arrives : IsArrival before n taken.taken.answers arrival
+        arrives = taken.arrives
 
-    asks_sound : IsAsks wanted.asks
-    asks_sound = sound (ap is_some is)
+        asks_sound : IsAsks wanted.asks
+        asks_sound = sound (ap is_some is)
 
-    newest_is : arrival.newest ≡ (latest past).window.newest
-    newest_is = arrives.newest_is ∙ ap (λ (w : Contents Content). w.newest) stands.assembled.stands.window
+        newest_is : arrival.newest ≡ (latest past).window.newest
+        newest_is = arrives.newest_is ∙ ap (λ (w : Contents Content). w.newest) stands.assembled.stands.window
 
-    lost_is : arrival.lost ≡ greatest_of (filter (λ m. not (is_passed (latest past).front m) && not (is_dead m (latest past).window.dead)) (numbers_left (latest past).window.first (latest past).window.newest (Some (newest_with (latest past).window.newest n))))
-    lost_is = arrives.lost_is
-        ∙ ap (λ (w : Contents Content). greatest_of (filter (λ m. not (is_passed before.front m) && not (is_dead m w.dead)) (numbers_left w.first w.newest (Some (newest_with w.newest n))))) stands.assembled.stands.window
-        ∙ ap (λ (f : Option ℕ). greatest_of (filter (λ m. not (is_passed f m) && not (is_dead m (latest past).window.dead)) (numbers_left (latest past).window.first (latest past).window.newest (Some (newest_with (latest past).window.newest n))))) stands.assembled.stands.front
+        lost_is : arrival.lost ≡ greatest_of (filter (λ m. not (is_passed (latest past).front m) && not (is_dead m (latest past).window.dead)) (numbers_left (latest past).window.first (latest past).window.newest (Some (newest_with (latest past).window.newest n))))
+        lost_is = arrives.lost_is
+            ∙ ap (λ (w : Contents Content). greatest_of (filter (λ m. not (is_passed before.front m) && not (is_dead m w.dead)) (numbers_left w.first w.newest (Some (newest_with w.newest n))))) stands.assembled.stands.window
+            ∙ ap (λ (f : Option ℕ). greatest_of (filter (λ m. not (is_passed f m) && not (is_dead m (latest past).window.dead)) (numbers_left (latest past).window.first (latest past).window.newest (Some (newest_with (latest past).window.newest n))))) stands.assembled.stands.front
 
-    lost_now : arrival.lost ≡ greatest_of s.lost
-    lost_now = lost-arrived before.settings codec h moment n content arrival arrives.number_is newest_is lost_is
+        lost_now : arrival.lost ≡ greatest_of s.lost
+        lost_now = lost-arrived before.settings codec h moment n content arrival arrives.number_is newest_is lost_is
 
-    completed : arrival.key ≡ completes_key (latest past).standing s.standing
-    completed = arrives.key_is
-        ∙ sym (taken-completes are rise codec before after n taken.held whole.kept whole.window.packets_rise whole.window.packets_inside taken.may.fresh taken.taken (latest past).standing s.standing stands.assembled.stands.frames stood.frames)
+        completed : arrival.key ≡ completes_key (latest past).standing s.standing
+        completed = arrives.key_is
+            ∙ sym (taken-completes are rise codec before after n taken.held whole.kept whole.window.packets_rise whole.window.packets_inside taken.may.fresh taken.taken (latest past).standing s.standing stands.assembled.stands.frames stood.frames)
 
-    falls : Falls (latest (snapshots before.settings codec h)).pulled
-    falls = pulled-falls are before.settings codec h
+        falls : Falls (latest (snapshots before.settings codec h)).pulled
+        falls = pulled-falls are before.settings codec h
 
   comes-by : (v : Result (ℕ × Content) NotTaken) → ComesOf codec before after moment outcome.arrival v → StandsIn codec after (after_datagram codec past moment v ∷ past) → Comes (after_datagram codec past moment v)
   comes-by (Err left) comes stood = by-arrival None comes.0 (moved (latest past) moment) (wants-moved wanted past moment stands.wants) refl refl

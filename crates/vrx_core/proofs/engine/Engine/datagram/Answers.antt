@@ -61,10 +61,11 @@ returns-clause-refused g c =
     let i = c.self.inside in
     subst (λ (p : Parts). IsErr (verdict p.settings g.C.Codec.meaning (contents_of p.window) c.args.bytes.now) → (true ≡ true) × (parts_of c.handle.new.self c.ask-feedback.new.requests ≡ record p { events = p.events + 1; clock = max p.clock c.args.moment })) c.self.view_is
     (λ refused.
-    let r = datagram-refused g.C.Codec.meaning i.assembler c.handle.new.self c.args.moment c.args.bytes.now c.in_ok-outcome.outcome c.in_ok-outcome.ensures.handled refused in
-    (refl,
-    ap (λ (w : Wanted). parts_of c.handle.new.self w) (c.ask-feedback.ensures.wanted ∙ ap (λ o. wanted_with c.handle.new.self.clock c.handle.new.self.front (greatest_of (key_numbers c.handle.new.self.frames)) o i.requests) r.0)
-    ∙ ap (λ (a : Assembly). parts_of a i.requests) r.1))
+    let r = datagram-refused g.C.Codec.meaning i.assembler c.handle.new.self c.args.moment c.args.bytes.now c.in_ok-outcome.outcome c.in_ok-outcome.ensures.handled refused in (
+      refl,
+      ap (λ (w : Wanted). parts_of c.handle.new.self w) (c.ask-feedback.ensures.wanted ∙ ap (λ o. wanted_with c.handle.new.self.clock c.handle.new.self.front (greatest_of (key_numbers c.handle.new.self.frames)) o i.requests) r.0)
+          ∙ ap (λ (a : Assembly). parts_of a i.requests) r.1,
+    ))
 
 pub returns-clause-counts : goal.returns-clause-counts
 returns-clause-counts g c =
