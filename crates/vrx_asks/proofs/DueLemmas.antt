@@ -52,7 +52,8 @@ module _ (now interval : ℕ) where
   pub IsAsks-left : (asks : List Ask) → IsAsks asks → IsAsks (asks_left now interval asks)
   IsAsks-left asks h =
       let stays : Ask → Bool = λ ask. not (is_given_up now interval ask) in
-      IsAsks-map (ask_after now interval) number-after is_counted-after (filter stays asks) (IsAsks-filter stays asks h)
+      IsAsks-map (ask_after now interval) number-after is_counted-after (filter stays asks)
+      (IsAsks-filter stays asks h)
 
   asks_left-append : (xs ys : List Ask)
       → asks_left now interval (xs ++ ys) ≡ asks_left now interval xs ++ asks_left now interval ys
@@ -63,7 +64,8 @@ module _ (now interval : ℕ) where
   asked-append xs ys = rw filter-append (map-append (λ ask. ask.number) _ _)
 
   given_up-append : (xs ys : List Ask)
-      → given_up_numbers now interval (xs ++ ys) ≡ given_up_numbers now interval xs ++ given_up_numbers now interval ys
+      → given_up_numbers now interval (xs ++ ys) ≡ given_up_numbers now interval xs
+      ++ given_up_numbers now interval ys
   given_up-append xs ys = rw filter-append (map-append (λ ask. ask.number) _ _)
 
   -- Of old, the first i are settled: what is left of them stands in the first kept places, and their numbers are among
@@ -77,7 +79,8 @@ module _ (now interval : ℕ) where
     pub asked_are : asked ≡ asked_numbers now interval (take i old)
     pub given_up_are : given_up ≡ given_up_numbers now interval (take i old)
 
-  module _ {old asks : List Ask} {kept i : ℕ} {asked given_up : List ℕ} (s : IsSettled old asks kept i asked given_up) where
+  module _ {old asks : List Ask} {kept i : ℕ} {asked given_up : List ℕ}
+      (s : IsSettled old asks kept i asked given_up) where
     -- while there are more, there is room for one more number
     module _ (in_old : i < length old) (few : length old < WINDOW) where
       pub room-asked : length asked < WINDOW
@@ -86,7 +89,8 @@ module _ (now interval : ℕ) where
 
       pub room-given_up : length given_up < WINDOW
       room-given_up =
-          rw s.given_up_are (omega (arith, s.long, numbers-few (is_given_up now interval) (take i old), length-take i old))
+          rw s.given_up_are (omega
+          (arith, s.long, numbers-few (is_given_up now interval) (take i old), length-take i old))
 
     -- once all are settled
     module _ (end : length old ≤ i) where

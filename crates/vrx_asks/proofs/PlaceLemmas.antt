@@ -37,7 +37,8 @@ without-absent : (n : ℕ) (asks : List Ask) → ((k : ℕ) (d : Ask) → k < le
     → without n asks ≡ asks
 without-absent n asks h =
     let differs : Ask → Bool = λ ask. not (ask.number == n) in
-    filter-all differs asks (list_all-from_AllPass differs asks (λ k d lt. passes (get_or asks k d).number n (h k d lt)))
+    filter-all differs asks (list_all-from_AllPass differs asks
+    (λ k d lt. passes (get_or asks k d).number n (h k d lt)))
   where
     passes : (m n : ℕ) → m ≢ n → not (m == n) ≡ true
     passes m n ne = grind (arith, common_steps)
@@ -107,7 +108,8 @@ module _ (n : ℕ) (asks : List Ask) (rise : rises asks ≡ true) where
     found = tt;
     absent = without-absent n asks (λ k d lt same.
         let number : ℕ = (get_or asks k d).number in
-        let less : k < place → number < n = λ at. ranked _ n _ (sym ((parted comparisons_rise).0 k d (omega arith) at)) in
+        let less : k < place → number < n =
+            λ at. ranked _ n _ (sym ((parted comparisons_rise).0 k d (omega arith) at)) in
         let more : place ≤ k → n < number = λ at. ranked _ n _ (sym ((parted comparisons_rise).1 k d at lt)) in
         differs-beside k place number n less more same);
   }

@@ -26,19 +26,27 @@ told-write line (Datagram m octets) is = (datagram_mean line m octets).1 is
 told-write line (Tick m) is = (tick_mean line m).1 is
 told-write line (Pull m) is = (pull_mean line m).1 is
 
-event-shows : (max k events : ℕ) (line : List ℕ) (event : Event) → line_at max k events line ≡ Happens event → SaysEvent max k events line event
-event-shows max k events line event h = let is = (happens_mean max k events line event).0 h in (is.0, is.1, is.2, told-shows line event is.3)
+event-shows : (max k events : ℕ) (line : List ℕ) (event : Event) → line_at max k events line ≡ Happens event →
+    SaysEvent max k events line event
+event-shows max k events line event h = let is =
+    (happens_mean max k events line event).0 h in (is.0, is.1, is.2, told-shows line event is.3)
 
-event-write : (max k events : ℕ) (line : List ℕ) (event : Event) → SaysEvent max k events line event → line_at max k events line ≡ Happens event
-event-write max k events line event is = (happens_mean max k events line event).1 (is.0, is.1, is.2, told-write line event is.3)
+event-write : (max k events : ℕ) (line : List ℕ) (event : Event) → SaysEvent max k events line event →
+    line_at max k events line ≡ Happens event
+event-write max k events line event is =
+    (happens_mean max k events line event).1 (is.0, is.1, is.2, told-write line event is.3)
 
 -- what a first line and the others give, by what it says
-first_reading : (max k events : ℕ) (line : List ℕ) (lines : List (List ℕ)) (kind : LineKind) → line_at max k events line ≡ kind → reading max k events (line ∷ lines) ≡ with_line k kind (reading max (k + 1) (events + event_count kind) lines)
+first_reading : (max k events : ℕ) (line : List ℕ) (lines : List (List ℕ)) (kind : LineKind) →
+    line_at max k events line ≡ kind →
+    reading max k events (line ∷ lines) ≡ with_line k kind (reading max (k + 1) (events + event_count kind) lines)
 unfolding reading
 first_reading max k events line lines kind is = rw is refl
 
 -- after the line of an event stand the other lines
-event_rest : (k : ℕ) (event : Event) (rest : Reading) (given : List (ℕ × Event)) (bad : Option (ℕ × LineReason)) → with_line k (Happens event) rest ≡ record { events = given; bad = bad } → (given ≡ (k, event) ∷ rest.events) × (rest ≡ record { events = rest.events; bad = bad })
+event_rest : (k : ℕ) (event : Event) (rest : Reading) (given : List (ℕ × Event)) (bad : Option (ℕ × LineReason)) →
+    with_line k (Happens event) rest ≡ record { events = given; bad = bad } →
+    (given ≡ (k, event) ∷ rest.events) × (rest ≡ record { events = rest.events; bad = bad })
 event_rest k event rest given bad h =
     let events : (k, event) ∷ rest.events ≡ given = ap (λ (r : Reading). r.events) h in
     let same : rest.bad ≡ bad = ap (λ (r : Reading). r.bad) h in
@@ -46,7 +54,10 @@ event_rest k event rest given bad h =
 
 -- ---- lines with no bad one
 
-good_by : (max k events : ℕ) (line : List ℕ) (lines : List (List ℕ)) (kind : LineKind) (rest : Reading) (given : List (ℕ × Event)) → line_at max k events line ≡ kind → with_line k kind rest ≡ sound given → ((others : List (ℕ × Event)) → rest ≡ sound others → AreGood max (k + 1) (events + event_count kind) lines others) → AreGood max k events (line ∷ lines) given
+good_by : (max k events : ℕ) (line : List ℕ) (lines : List (List ℕ)) (kind : LineKind) (rest : Reading)
+    (given : List (ℕ × Event)) → line_at max k events line ≡ kind → with_line k kind rest ≡ sound given →
+    ((others : List (ℕ × Event)) → rest ≡ sound others →
+    AreGood max (k + 1) (events + event_count kind) lines others) → AreGood max k events (line ∷ lines) given
 good_by max k events line lines Blank rest given is h good =
     let none : events + 0 ≡ events = omega arith in
     inl ((blank_mean max k events line).0 is, rw none at (good given h))
@@ -57,32 +68,43 @@ good_by max k events line lines (Happens event) rest given is h good =
     let shown = event_rest k event rest given None h in
     inr (event, rest.events, event-shows max k events line event is, shown.0, good rest.events shown.1)
 
-good-shows : (max k events : ℕ) (lines : List (List ℕ)) (given : List (ℕ × Event)) → reading max k events lines ≡ sound given → AreGood max k events lines given
+good-shows : (max k events : ℕ) (lines : List (List ℕ)) (given : List (ℕ × Event)) →
+    reading max k events lines ≡ sound given → AreGood max k events lines given
 unfolding reading
 good-shows max k events [] given h = sym (ap (λ (r : Reading). r.events) h)
-good-shows max k events (line ∷ lines) given h = good_by max k events line lines (line_at max k events line) (reading max (k + 1) (events + event_count (line_at max k events line)) lines) given refl h (λ others shown. good-shows max (k + 1) (events + event_count (line_at max k events line)) lines others shown)
+good-shows max k events (line ∷ lines) given h =
+    good_by max k events line lines (line_at max k events line)
+    (reading max (k + 1) (events + event_count (line_at max k events line)) lines) given refl h
+    (λ others shown. good-shows max (k + 1) (events + event_count (line_at max k events line)) lines others shown)
 
 none_write : (max k events : ℕ) (given : List (ℕ × Event)) → given ≡ [] → reading max k events [] ≡ sound given
 unfolding reading
 none_write max k events given none = rw none refl
 
-good-write : (max k events : ℕ) (lines : List (List ℕ)) (given : List (ℕ × Event)) → AreGood max k events lines given → reading max k events lines ≡ sound given
+good-write : (max k events : ℕ) (lines : List (List ℕ)) (given : List (ℕ × Event)) →
+    AreGood max k events lines given → reading max k events lines ≡ sound given
 good-write max k events [] given none = none_write max k events given none
 good-write max k events (line ∷ lines) given (inl (blank, rest)) =
     let none : events + 0 ≡ events = omega arith in
-    let others : reading max (k + 1) (events + 0) lines ≡ sound given = rw none (good-write max (k + 1) events lines given rest) in
+    let others : reading max (k + 1) (events + 0) lines ≡ sound given =
+        rw none (good-write max (k + 1) events lines given rest) in
     first_reading max k events line lines Blank ((blank_mean max k events line).1 blank) ∙ others
 good-write max k events (line ∷ lines) given (inr (event, others, is, told, rest)) =
-    let shown : reading max (k + 1) (events + 1) lines ≡ sound others = good-write max (k + 1) (events + 1) lines others rest in
-    first_reading max k events line lines (Happens event) (event-write max k events line event is) ∙ rw (shown, told) refl
+    let shown : reading max (k + 1) (events + 1) lines ≡ sound others =
+        good-write max (k + 1) (events + 1) lines others rest in
+    first_reading max k events line lines (Happens event) (event-write max k events line event is)
+    ∙ rw (shown, told) refl
 
-pub good_mean : (max k events : ℕ) (lines : List (List ℕ)) (given : List (ℕ × Event)) → (reading max k events lines ≡ sound given) ↔ AreGood max k events lines given
+pub good_mean : (max k events : ℕ) (lines : List (List ℕ)) (given : List (ℕ × Event)) →
+    (reading max k events lines ≡ sound given) ↔ AreGood max k events lines given
 good_mean max k events lines given = (good-shows max k events lines given, good-write max k events lines given)
 
 -- ---- lines with a bad one
 
 -- the bad line is among the others
-bad_blank : (max k events : ℕ) (line : List ℕ) (lines : List (List ℕ)) (given : List (ℕ × Event)) (j : ℕ) (reason : LineReason) → line_at max k events line ≡ Blank → HasBad max (k + 1) events lines given j reason → HasBad max k events (line ∷ lines) given j reason
+bad_blank : (max k events : ℕ) (line : List ℕ) (lines : List (List ℕ)) (given : List (ℕ × Event)) (j : ℕ)
+    (reason : LineReason) → line_at max k events line ≡ Blank → HasBad max (k + 1) events lines given j reason →
+    HasBad max k events (line ∷ lines) given j reason
 bad_blank max k events line lines given j reason is bad = record {
   before = line ∷ bad.before;
   line = bad.line;
@@ -93,7 +115,9 @@ bad_blank max k events line lines given j reason is bad = record {
   why = bad.why;
 }
 
-bad_event : (max k events : ℕ) (line : List ℕ) (lines : List (List ℕ)) (event : Event) (rest given : List (ℕ × Event)) (j : ℕ) (reason : LineReason) → line_at max k events line ≡ Happens event → given ≡ (k, event) ∷ rest → HasBad max (k + 1) (events + 1) lines rest j reason → HasBad max k events (line ∷ lines) given j reason
+bad_event : (max k events : ℕ) (line : List ℕ) (lines : List (List ℕ)) (event : Event) (rest given : List (ℕ × Event))
+    (j : ℕ) (reason : LineReason) → line_at max k events line ≡ Happens event → given ≡ (k, event) ∷ rest →
+    HasBad max (k + 1) (events + 1) lines rest j reason → HasBad max k events (line ∷ lines) given j reason
 bad_event max k events line lines event rest given j reason is told bad =
     let count : events + 1 + length rest ≡ events + length given = rw told (omega arith) in
     record {
@@ -107,7 +131,9 @@ bad_event max k events line lines event rest given j reason is told bad =
     }
 
 -- it is the first line
-bad_first : (max k events : ℕ) (line : List ℕ) (lines : List (List ℕ)) (given : List (ℕ × Event)) (j : ℕ) (reason : LineReason) → given ≡ [] → j ≡ k → line_at max k events line ≡ Wrong reason → HasBad max k events (line ∷ lines) given j reason
+bad_first : (max k events : ℕ) (line : List ℕ) (lines : List (List ℕ)) (given : List (ℕ × Event)) (j : ℕ)
+    (reason : LineReason) → given ≡ [] → j ≡ k → line_at max k events line ≡ Wrong reason →
+    HasBad max k events (line ∷ lines) given j reason
 bad_first max k events line lines given j reason none same is =
     let count : events ≡ events + length given = rw none (omega arith) in
     record {
@@ -120,7 +146,12 @@ bad_first max k events line lines given j reason none same is =
       why = (wrong_mean max j (events + length given) line reason).0 (rw (same, sym count) is);
     }
 
-bad_by : (max k events : ℕ) (line : List ℕ) (lines : List (List ℕ)) (kind : LineKind) (rest : Reading) (given : List (ℕ × Event)) (j : ℕ) (reason : LineReason) → line_at max k events line ≡ kind → with_line k kind rest ≡ record { events = given; bad = Some (j, reason) } → ((others : List (ℕ × Event)) → rest ≡ record { events = others; bad = Some (j, reason) } → HasBad max (k + 1) (events + event_count kind) lines others j reason) → HasBad max k events (line ∷ lines) given j reason
+bad_by : (max k events : ℕ) (line : List ℕ) (lines : List (List ℕ)) (kind : LineKind) (rest : Reading)
+    (given : List (ℕ × Event)) (j : ℕ) (reason : LineReason) → line_at max k events line ≡ kind →
+    with_line k kind rest ≡ record { events = given; bad = Some (j, reason) } →
+    ((others : List (ℕ × Event)) → rest ≡ record { events = others; bad = Some (j, reason) } →
+    HasBad max (k + 1) (events + event_count kind) lines others j reason) →
+    HasBad max k events (line ∷ lines) given j reason
 bad_by max k events line lines Blank rest given j reason is h bad =
     let none : events + 0 ≡ events = omega arith in
     bad_blank max k events line lines given j reason is (rw none at (bad given h))
@@ -135,20 +166,38 @@ bad_by max k events line lines (Happens event) rest given j reason is h bad =
     let shown = event_rest k event rest given (Some (j, reason)) h in
     bad_event max k events line lines event rest.events given j reason is shown.0 (bad rest.events shown.1)
 
-bad-shows : (max k events : ℕ) (lines : List (List ℕ)) (given : List (ℕ × Event)) (j : ℕ) (reason : LineReason) → reading max k events lines ≡ record { events = given; bad = Some (j, reason) } → HasBad max k events lines given j reason
+bad-shows : (max k events : ℕ) (lines : List (List ℕ)) (given : List (ℕ × Event)) (j : ℕ) (reason : LineReason) →
+    reading max k events lines ≡ record { events = given; bad = Some (j, reason) } →
+    HasBad max k events lines given j reason
 unfolding reading
 bad-shows max k events [] given j reason h =
     let none : None ≡ Some (j, reason) = ap (λ (r : Reading). r.bad) h in
     cc none
-bad-shows max k events (line ∷ lines) given j reason h = bad_by max k events line lines (line_at max k events line) (reading max (k + 1) (events + event_count (line_at max k events line)) lines) given j reason refl h (λ others shown. bad-shows max (k + 1) (events + event_count (line_at max k events line)) lines others j reason shown)
+bad-shows max k events (line ∷ lines) given j reason h =
+    bad_by max k events line lines (line_at max k events line)
+    (reading max (k + 1) (events + event_count (line_at max k events line)) lines) given j reason refl h
+    (λ others shown. bad-shows max (k + 1)
+    (events + event_count (line_at max k events line)) lines others j reason shown)
 
-bad-write : (max k events : ℕ) (lines : List (List ℕ)) (given : List (ℕ × Event)) (j : ℕ) (reason : LineReason) → HasBad max k events lines given j reason → reading max k events lines ≡ record { events = given; bad = Some (j, reason) }
+bad-write : (max k events : ℕ) (lines : List (List ℕ)) (given : List (ℕ × Event)) (j : ℕ) (reason : LineReason) →
+    HasBad max k events lines given j reason →
+    reading max k events lines ≡ record { events = given; bad = Some (j, reason) }
 bad-write max k events lines given j reason bad =
-    let kind : line_at max j (events + length given) bad.line ≡ Wrong reason = (wrong_mean max j (events + length given) bad.line reason).1 bad.why in
-    let last : reading max j (events + length given) (bad.line ∷ bad.behind) ≡ bad_at (j, reason) = first_reading max j (events + length given) bad.line bad.behind (Wrong reason) kind in
-    let joined : reading max k events (bad.before ++ bad.line ∷ bad.behind) ≡ behind_events given (reading max (k + length bad.before) (events + length given) (bad.line ∷ bad.behind)) = readings_join max k events bad.before (bad.line ∷ bad.behind) given (good-write max k events bad.before given bad.good) in
-    let told : behind_events given (reading max (k + length bad.before) (events + length given) (bad.line ∷ bad.behind)) ≡ behind_events given (bad_at (j, reason)) = rw (sym bad.number, last) refl in
+    let kind : line_at max j (events + length given) bad.line ≡ Wrong reason =
+        (wrong_mean max j (events + length given) bad.line reason).1 bad.why in
+    let last : reading max j (events + length given) (bad.line ∷ bad.behind) ≡ bad_at (j, reason) =
+        first_reading max j (events + length given) bad.line bad.behind (Wrong reason) kind in
+    let joined : reading max k events (bad.before ++ bad.line ∷ bad.behind) ≡ behind_events given
+        (reading max (k + length bad.before) (events + length given) (bad.line ∷ bad.behind)) =
+        readings_join max k events bad.before (bad.line ∷ bad.behind) given
+        (good-write max k events bad.before given bad.good) in
+    let told : behind_events given
+        (reading max (k + length bad.before) (events + length given) (bad.line ∷ bad.behind)) ≡ behind_events given
+        (bad_at (j, reason)) = rw (sym bad.number, last) refl in
     rw bad.order (joined ∙ told ∙ rw (append-nil given) refl)
 
-pub bad_mean : (max k events : ℕ) (lines : List (List ℕ)) (given : List (ℕ × Event)) (j : ℕ) (reason : LineReason) → (reading max k events lines ≡ record { events = given; bad = Some (j, reason) }) ↔ HasBad max k events lines given j reason
-bad_mean max k events lines given j reason = (bad-shows max k events lines given j reason, bad-write max k events lines given j reason)
+pub bad_mean : (max k events : ℕ) (lines : List (List ℕ)) (given : List (ℕ × Event)) (j : ℕ) (reason : LineReason) →
+    (reading max k events lines ≡ record { events = given; bad = Some (j, reason) })
+    ↔ HasBad max k events lines given j reason
+bad_mean max k events lines given j reason =
+    (bad-shows max k events lines given j reason, bad-write max k events lines given j reason)

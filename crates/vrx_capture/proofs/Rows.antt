@@ -62,7 +62,8 @@ unfolding capture_on_literals
 half_an_octet = refl
 
 -- the events up to the first bad line
-pub up_to_the_bad_line : reading 9 2 0 (codes "p 1" ∷ [] ∷ codes "t 2" ∷ codes "x" ∷ codes "p 3" ∷ []) ≡ record { events = (2, Pull 1) ∷ (4, Tick 2) ∷ []; bad = Some (5, Kind) }
+pub up_to_the_bad_line : reading 9 2 0 (codes "p 1" ∷ [] ∷ codes "t 2" ∷ codes "x" ∷ codes "p 3" ∷ [])
+    ≡ record { events = (2, Pull 1) ∷ (4, Tick 2) ∷ []; bad = Some (5, Kind) }
 unfolding capture_on_literals
 up_to_the_bad_line = refl
 

@@ -36,20 +36,25 @@ all_plain-at (suc n) k h lt =
 lower_plain : (k : ℕ) → k < 16 → is_plain (slice_index lower_digits k) ≡ true
 lower_plain k below = all_plain-at 16 k refl below
 
-plain_front : (c : ℕ) (cs : List ℕ) → is_plain c ≡ true → (list_any is_upper cs ≡ false) × (list_any (λ o. o == 32) cs ≡ false) → (list_any is_upper (c ∷ cs) ≡ false) × (list_any (λ o. o == 32) (c ∷ cs) ≡ false)
+plain_front : (c : ℕ) (cs : List ℕ) → is_plain c ≡ true →
+    (list_any is_upper cs ≡ false) × (list_any (λ o. o == 32) cs ≡ false) →
+    (list_any is_upper (c ∷ cs) ≡ false) × (list_any (λ o. o == 32) (c ∷ cs) ≡ false)
 plain_front c cs plain rest =
     let upper : is_upper c ≡ false = grind (arith, plain) in
     let space : (c == 32) ≡ false = grind (arith, plain) in
     (rw (upper, rest.0) refl, rw (space, rest.1) refl)
 
 -- what is written of octets has no upper-case letter and no space
-pub encoded_plain : (xs : List ℕ) → IsBytes xs → (list_any is_upper (encode_lower xs) ≡ false) × (list_any (λ o. o == 32) (encode_lower xs) ≡ false)
+pub encoded_plain : (xs : List ℕ) → IsBytes xs →
+    (list_any is_upper (encode_lower xs) ≡ false) × (list_any (λ o. o == 32) (encode_lower xs) ≡ false)
 unfolding encode_with
 encoded_plain [] fits = (refl, refl)
 encoded_plain (b ∷ xs) fits =
     let below : b < 256 = fits 0 in
-    plain_front (slice_index lower_digits (b / 16)) (slice_index lower_digits (b % 16) ∷ encode_with lower_digits xs) (lower_plain (b / 16) (omega arith))
-    (plain_front (slice_index lower_digits (b % 16)) (encode_with lower_digits xs) (lower_plain (b % 16) (omega arith)) (encoded_plain xs (λ i. fits (suc i))))
+    plain_front (slice_index lower_digits (b / 16)) (slice_index lower_digits (b % 16) ∷ encode_with lower_digits xs)
+    (lower_plain (b / 16) (omega arith))
+    (plain_front (slice_index lower_digits (b % 16)) (encode_with lower_digits xs)
+    (lower_plain (b % 16) (omega arith)) (encoded_plain xs (λ i. fits (suc i))))
 
 -- ---- digits that read are those that are written, if none is an upper-case letter
 
@@ -75,19 +80,23 @@ all_back-at (suc n) c h lt =
 digit_below : (c v : ℕ) → hex_digit_value c ≡ Some v → c < 103
 digit_below c v h = grind arith
 
-back_on : (c v : ℕ) (upper : Bool) (o : Option ℕ) → goes_back c upper o ≡ true → upper ≡ false → o ≡ Some v → (slice_index lower_digits v ≡ c) × (v < 16)
+back_on : (c v : ℕ) (upper : Bool) (o : Option ℕ) → goes_back c upper o ≡ true → upper ≡ false → o ≡ Some v →
+    (slice_index lower_digits v ≡ c) × (v < 16)
 back_on c v upper None test plain read = cc read
 back_on c v true (Some w) test plain read = cc plain
 back_on c v false (Some w) test plain read =
     let same : w ≡ v = grind (arith, read) in
     let parts = and_parts (slice_index lower_digits w == c) (nat_lt w 16) test in
     let below : w < 16 = grind (arith, parts.1) in
-    (ap (λ (n : ℕ). slice_index lower_digits n) (sym same) ∙ eqb-true (slice_index lower_digits w) c parts.0, omega arith)
+    (ap (λ (n : ℕ). slice_index lower_digits n) (sym same)
+    ∙ eqb-true (slice_index lower_digits w) c parts.0, omega arith)
 
 digit_back : (c v : ℕ) → is_upper c ≡ false → hex_digit_value c ≡ Some v → (slice_index lower_digits v ≡ c) × (v < 16)
-digit_back c v plain read = back_on c v (is_upper c) (hex_digit_value c) (all_back-at 103 c refl (digit_below c v read)) plain read
+digit_back c v plain read =
+    back_on c v (is_upper c) (hex_digit_value c) (all_back-at 103 c refl (digit_below c v read)) plain read
 
-bind_ok : {A B : Type 0} (r : Result A FromHexError) (f : A → Result B FromHexError) (y : B) → (r >>= f) ≡ Ok y → (x : A) × (r ≡ Ok x) × (f x ≡ Ok y)
+bind_ok : {A B : Type 0} (r : Result A FromHexError) (f : A → Result B FromHexError) (y : B) → (r >>= f) ≡ Ok y →
+    (x : A) × (r ≡ Ok x) × (f x ≡ Ok y)
 bind_ok (Ok x) f y h = (x, refl, h)
 bind_ok (Err e) f y h = cc h
 
@@ -95,21 +104,25 @@ digit_read : (c i : ℕ) (o : Option ℕ) (v : ℕ) → digit_or_error c i o ≡
 digit_read c i (Some w) v h = ap Some (ap (λ (r : Result ℕ FromHexError). result_unwrap_or r 0) h)
 digit_read c i None v h = cc h
 
-pair_back : (a b byte h l : ℕ) → slice_index lower_digits h ≡ a → slice_index lower_digits l ≡ b → h < 16 → l < 16 → h * 16 + l ≡ byte → (slice_index lower_digits (byte / 16) ≡ a) × (slice_index lower_digits (byte % 16) ≡ b)
+pair_back : (a b byte h l : ℕ) → slice_index lower_digits h ≡ a → slice_index lower_digits l ≡ b → h < 16 → l < 16 →
+    h * 16 + l ≡ byte → (slice_index lower_digits (byte / 16) ≡ a) × (slice_index lower_digits (byte % 16) ≡ b)
 pair_back a b byte h l high low high_below low_below whole =
     let first : byte / 16 ≡ h = omega arith in
     let second : byte % 16 ≡ l = omega arith in
     (ap (λ (n : ℕ). slice_index lower_digits n) first ∙ high, ap (λ (n : ℕ). slice_index lower_digits n) second ∙ low)
 
-two_plain : (a b : ℕ) (rest : List ℕ) → list_any is_upper (a ∷ b ∷ rest) ≡ false → (is_upper a ≡ false) × (is_upper b ≡ false) × (list_any is_upper rest ≡ false)
+two_plain : (a b : ℕ) (rest : List ℕ) → list_any is_upper (a ∷ b ∷ rest) ≡ false →
+    (is_upper a ≡ false) × (is_upper b ≡ false) × (list_any is_upper rest ≡ false)
 two_plain a b rest plain = (grind arith, grind arith, grind arith)
 
 -- the text of an octet and others
-same_text : (a b byte : ℕ) (rest bytes : List ℕ) → slice_index lower_digits (byte / 16) ≡ a → slice_index lower_digits (byte % 16) ≡ b → rest ≡ encode_lower bytes → a ∷ b ∷ rest ≡ encode_lower (byte ∷ bytes)
+same_text : (a b byte : ℕ) (rest bytes : List ℕ) → slice_index lower_digits (byte / 16) ≡ a →
+    slice_index lower_digits (byte % 16) ≡ b → rest ≡ encode_lower bytes → a ∷ b ∷ rest ≡ encode_lower (byte ∷ bytes)
 unfolding encode_with
 same_text a b byte rest bytes high low more = cc
 
-pairs_back : (i : ℕ) (s bytes : List ℕ) → decode_pairs i s ≡ Ok bytes → list_any is_upper s ≡ false → s ≡ encode_lower bytes
+pairs_back : (i : ℕ) (s bytes : List ℕ) → decode_pairs i s ≡ Ok bytes → list_any is_upper s ≡ false →
+    s ≡ encode_lower bytes
 unfolding decode_pairs encode_with
 pairs_back i [] bytes h plain =
     let e : [] ≡ bytes = ap (λ (r : Result (List ℕ) FromHexError). result_unwrap_or r []) h in
@@ -134,17 +147,20 @@ pairs_back i (a ∷ b ∷ rest) bytes h plain =
 same_some : (m n : ℕ) → Some m ≡ Some n → m ≡ n
 same_some m n h = cc h
 
-mapped : (r : Result (List ℕ) FromHexError) (n : ℕ) → option_map (from_be_bytes w32) (result_ok r) ≡ Some n → (bytes : List ℕ) × (r ≡ Ok bytes) × (n ≡ from_be_bytes w32 bytes)
+mapped : (r : Result (List ℕ) FromHexError) (n : ℕ) → option_map (from_be_bytes w32) (result_ok r) ≡ Some n →
+    (bytes : List ℕ) × (r ≡ Ok bytes) × (n ≡ from_be_bytes w32 bytes)
 mapped (Ok bytes) n h = let same : from_be_bytes w32 bytes ≡ n = same_some _ n h in (bytes, refl, sym same)
 mapped (Err e) n h = cc h
 
 below_32 : (bs : List ℕ) → IsBytes bs → from_be_bytes w32 bs < 2 ^ 32
 below_32 bs fits = omega (arith, fits 0, fits 1, fits 2, fits 3)
 
-pub ssrc_in-read : (ds : List ℕ) (n : ℕ) → ssrc_in ds ≡ Some n → (ds ≡ encode_lower (to_be_bytes w32 n)) × (n < 2 ^ 32)
+pub ssrc_in-read : (ds : List ℕ) (n : ℕ) → ssrc_in ds ≡ Some n →
+    (ds ≡ encode_lower (to_be_bytes w32 n)) × (n < 2 ^ 32)
 unfolding ssrc_in
 ssrc_in-read ds n h =
-    let test = not_chosen (list_any is_upper ds) (option_map (from_be_bytes w32) (result_ok (decode_sized ds 4))) n h in
+    let test =
+        not_chosen (list_any is_upper ds) (option_map (from_be_bytes w32) (result_ok (decode_sized ds 4))) n h in
     let read = mapped (decode_sized ds 4) n test.1 in
     let len : length ds ≡ 2 * 4 = decode_sized-ok ds 4 read.0 read.1 in
     let whole : decode_of ds ≡ Ok read.0 = sym (decode_sized-twice ds 4 len) ∙ read.1 in
@@ -152,7 +168,8 @@ ssrc_in-read ds n h =
     let pairs : decode_pairs 0 ds ≡ Ok read.0 = sym (decode_of-even ds ok.0) ∙ whole in
     let four : length read.0 ≡ 4 = omega (arith, len, ok.2) in
     let octets : to_be_bytes w32 n ≡ read.0 = be_bytes_4 read.0 n four ok.3 read.2 in
-    (pairs_back 0 ds read.0 pairs test.0 ∙ ap encode_lower (sym octets), subst (λ (k : ℕ). k < 2 ^ 32) (sym read.2) (below_32 read.0 ok.3))
+    (pairs_back 0 ds read.0 pairs test.0
+    ∙ ap encode_lower (sym octets), subst (λ (k : ℕ). k < 2 ^ 32) (sym read.2) (below_32 read.0 ok.3))
 
 pub octets_fit : (n : ℕ) → IsBytes (to_be_bytes w32 n)
 octets_fit n zero = omega arith
@@ -164,6 +181,8 @@ octets_fit n (suc (suc (suc (suc i)))) = omega arith
 pub ssrc_in-write : (n : ℕ) → n < 2 ^ 32 → ssrc_in (encode_lower (to_be_bytes w32 n)) ≡ Some n
 unfolding ssrc_in
 ssrc_in-write n fits =
-    let plain : list_any is_upper (encode_lower (to_be_bytes w32 n)) ≡ false = (encoded_plain (to_be_bytes w32 n) (octets_fit n)).0 in
-    let read : decode_sized (encode_lower (to_be_bytes w32 n)) 4 ≡ Ok (to_be_bytes w32 n) = decode_sized-encode_lower (to_be_bytes w32 n) 4 refl (octets_fit n) in
+    let plain : list_any is_upper (encode_lower (to_be_bytes w32 n)) ≡ false =
+        (encoded_plain (to_be_bytes w32 n) (octets_fit n)).0 in
+    let read : decode_sized (encode_lower (to_be_bytes w32 n)) 4 ≡ Ok (to_be_bytes w32 n) =
+        decode_sized-encode_lower (to_be_bytes w32 n) 4 refl (octets_fit n) in
     rw (plain, read) (ap Some (from_be_bytes-to_be_bytes_4 n fits))

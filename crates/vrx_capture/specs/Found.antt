@@ -1,8 +1,8 @@
 -- What stands at the front of the octets that a reader keeps.
 use Rattle.std.specs.Prelude.{◌≡◌, ◌⊎◌, ℕ, ◌<◌, ◌≤◌, Bool, true, List, [], length}
 use Rattle.vrx_capture.specs.Line.{feed_place, longest_line}
-use Rattle.vrx_capture.specs.declared.held.Found.{Found}
-use Rattle.vrx_capture.specs.declared.held.Found.TheVariants.{Line, TooLong, End}
+use Rattle.vrx_capture.specs.declared.buffer.Found.{Found}
+use Rattle.vrx_capture.specs.declared.buffer.Found.TheVariants.{Line, TooLong, End}
 
 -- the first line is the first `len` octets kept; after it stands its line feed, or it is the last of its source
 pub record IsFirstLine (kept : List ℕ) (ended : Bool) (len : ℕ) : Type 0 where

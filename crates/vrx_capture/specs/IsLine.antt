@@ -63,15 +63,16 @@ IsBad max k events line End = BeginsAlone line × HasSpace (drop 2 line)
 IsBad max k events line Hex = BeginsWith (codes "d ") line × ((octets : List ℕ) → TellsOctets line octets → ⊥)
 
 -- the place of a reason in the order in which the reasons count
-abbrev pub place : LineReason → ℕ
-place Lines = 0
-place Long = 1
-place Kind = 2
-place Events = 3
-place Moment = 4
-place End = 5
-place Hex = 6
+abbrev pub rank : LineReason → ℕ
+rank Lines = 0
+rank Long = 1
+rank Kind = 2
+rank Events = 3
+rank Moment = 4
+rank End = 5
+rank Hex = 6
 
 -- line k is bad for this reason, and for none that counts before it
 abbrev pub IsFirstReason : ℕ → ℕ → ℕ → List ℕ → LineReason → Type 0
-IsFirstReason max k events line reason = IsBad max k events line reason × ((other : LineReason) → place other < place reason → IsBad max k events line other → ⊥)
+IsFirstReason max k events line reason = IsBad max k events line reason
+    × ((other : LineReason) → rank other < rank reason → IsBad max k events line other → ⊥)

@@ -29,7 +29,8 @@ red_text (Some red) = codes " red=" ++ decimal red.red_type ++ number_text (code
 -- the stream of retransmissions, and nothing if there is none
 abbrev pub rtx_text : Option Rtx → List ℕ
 rtx_text None = []
-rtx_text (Some rtx) = codes " rtxssrc=" ++ ssrc_text rtx.ssrc ++ codes " rtx=" ++ decimal rtx.media_rtx_type ++ number_text (codes " rtxred=") rtx.red_rtx_type
+rtx_text (Some rtx) = codes " rtxssrc=" ++ ssrc_text rtx.ssrc ++ codes " rtx=" ++ decimal rtx.media_rtx_type
+    ++ number_text (codes " rtxred=") rtx.red_rtx_type
 
 -- the interval of requests, and nothing if the line reports none
 abbrev pub interval_text : Option ℕ → List ℕ
@@ -39,7 +40,9 @@ interval_text told = number_text (codes " interval=") told
 -- have the usual one. Each payload type fits an octet, each SSRC 32 bits, and the interval five digits
 pub record IsSettingsLine (line : List ℕ) (codec : CodecName) (settings : Settings) : Type 0 where
   pub told : Option ℕ
-  pub spelled : line ≡ codes "vrx 1 codec=" ++ codec_text codec ++ codes " ssrc=" ++ ssrc_text settings.media_ssrc ++ codes " pt=" ++ decimal settings.media_type ++ red_text settings.red ++ rtx_text settings.rtx ++ codes " from=" ++ ssrc_text settings.from_ssrc ++ interval_text told
+  pub spelled : line ≡ codes "vrx 1 codec=" ++ codec_text codec ++ codes " ssrc=" ++ ssrc_text settings.media_ssrc
+      ++ codes " pt=" ++ decimal settings.media_type ++ red_text settings.red ++ rtx_text settings.rtx
+      ++ codes " from=" ++ ssrc_text settings.from_ssrc ++ interval_text told
   pub interval : settings.interval ≡ unwrap_or told usual_interval
   pub types : All (λ type. type ≤ greatest_type) (types_of settings)
   pub ssrcs : All (λ ssrc. ssrc < 2 ^ 32) (ssrcs_of settings)

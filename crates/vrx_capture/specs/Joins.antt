@@ -23,4 +23,7 @@ behind_events events rest = record { events = events ++ rest.events; bad = rest.
 -- lines with no bad one and lines after them give the events of the first, and then what the others give, with the
 -- numbers and after the event lines that follow
 abbrev pub ReadingsJoin : Type 0
-ReadingsJoin = (max k events : ℕ) (lines more : List (List ℕ)) (given : List (ℕ × Event)) → reading max k events lines ≡ sound given → reading max k events (lines ++ more) ≡ behind_events given (reading max (k + length lines) (events + length given) more)
+ReadingsJoin = (max k events : ℕ) (lines more : List (List ℕ)) (given : List (ℕ × Event)) →
+    reading max k events lines ≡ sound given →
+    reading max k events (lines ++ more) ≡ behind_events given
+    (reading max (k + length lines) (events + length given) more)

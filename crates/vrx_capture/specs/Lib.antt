@@ -7,7 +7,7 @@ pub mod Reading
 pub mod Readings
 pub mod Joins
 pub mod Ahead
-pub mod Held
+pub mod Holding
 pub mod Found
 pub mod Reader
 pub mod Step

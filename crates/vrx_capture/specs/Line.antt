@@ -7,7 +7,8 @@ use Rattle.std.specs.Result.{result_ok}
 use Rattle.hex.specs.Hex.{decode_of}
 use Rattle.vrx_core.specs.declared.event.Event.{Event}
 use Rattle.vrx_core.specs.declared.event.Event.TheVariants.{Datagram, Tick, Pull}
-use Rattle.vrx_capture.specs.Words.{◌>>=◌, behind, word, behind_word, number_in}
+use Rattle.vrx_capture.specs.Words.{after_prefix, until_space, after_space, number_in}
+use Rattle.vrx_num.specs.OptionChain.{◌>>=◌}
 use Rattle.vrx_capture.specs.declared.line.LineKind.{LineKind}
 use Rattle.vrx_capture.specs.declared.line.LineKind.TheVariants.{Blank, Happens, Wrong}
 use Rattle.vrx_capture.specs.declared.line.LineReason.{LineReason}
@@ -36,8 +37,8 @@ abbrev pub longest_line : ℕ
 longest_line = 20000
 
 -- octets are a part of a line that may be taken yet: no line feed is among them, and they aren't too long
-abbrev pub IsPart : List ℕ → Type 0
-IsPart octets = (feed_place octets ≡ length octets) × (length octets ≤ longest_line)
+abbrev pub IsOpenLine : List ℕ → Type 0
+IsOpenLine octets = (feed_place octets ≡ length octets) × (length octets ≤ longest_line)
 
 -- the greatest moment that a line reports: twelve digits
 abbrev pub latest_moment : ℕ
@@ -45,7 +46,7 @@ latest_moment = 999999999999
 
 -- a line begins with these octets
 abbrev pub begins : List ℕ → List ℕ → Bool
-begins prefix line = is_some (behind prefix line)
+begins prefix line = is_some (after_prefix prefix line)
 
 -- an empty line, and one that begins with #, say nothing
 abbrev pub is_blank : List ℕ → Bool
@@ -67,16 +68,16 @@ abbrev pub is_event : List ℕ → Bool
 is_event line = is_datagram line || is_tick line || is_pull line
 
 -- what an event line reports after its first letter and a space: MOMENT, or MOMENT and more
-abbrev pub told : List ℕ → List ℕ
-told line = drop 2 line
+abbrev pub after_letter : List ℕ → List ℕ
+after_letter line = drop 2 line
 
 -- the moment that an event line reports, up to the next space or its end
 abbrev pub moment_in : List ℕ → Option ℕ
-moment_in line = number_in latest_moment (word (told line))
+moment_in line = number_in latest_moment (until_space (after_letter line))
 
 -- something stands after the moment, a space at least; a space is 32
 abbrev pub has_more : List ℕ → Bool
-has_more line = list_any (λ octet. octet == 32) (told line)
+has_more line = list_any (λ octet. octet == 32) (after_letter line)
 
 -- the octets of a datagram: two hexadecimal digits each, in either case, and at least one octet
 abbrev pub some_octets : Option (List ℕ) → Option (List ℕ)
@@ -89,7 +90,7 @@ octets_in digits = some_octets (result_ok (decode_of digits))
 
 -- the octets that a datagram's line reports after its moment and a space
 abbrev pub bytes_in : List ℕ → Option (List ℕ)
-bytes_in line = octets_in (behind_word (told line))
+bytes_in line = octets_in (after_space (after_letter line))
 
 -- why an event line may be bad that is within the limits, in the order in which the reasons count
 abbrev pub event_reasons : List ℕ → List (Bool × LineReason)
@@ -129,15 +130,15 @@ event_in line = do
   event_at line moment
 
 -- what a line says: that it is bad, for this reason; or its event; or nothing
-abbrev pub said : Option LineReason → Option Event → LineKind
-said (Some reason) event = Wrong reason
-said None (Some event) = Happens event
-said None None = Blank
+abbrev pub kind_of : Option LineReason → Option Event → LineKind
+kind_of (Some reason) event = Wrong reason
+kind_of None (Some event) = Happens event
+kind_of None None = Blank
 
 -- what an event line says that is within the limits
 unfoldable pub event_line : List ℕ → LineKind
-event_line line = said (first_reason (event_reasons line)) (event_in line)
+event_line line = kind_of (first_reason (event_reasons line)) (event_in line)
 
 -- what line k says, after this many event lines
 unfoldable pub line_at : ℕ → ℕ → ℕ → List ℕ → LineKind
-line_at max k events line = said (first_reason (reasons max k events line)) (event_in line)
+line_at max k events line = kind_of (first_reason (reasons max k events line)) (event_in line)

@@ -3,7 +3,7 @@
 use Rattle.std.specs.Prelude.{◌≡◌, ◌⊎◌, ℕ, ◌+◌, ◌<◌, ◌≤◌, Bool, true, false, List, [], ◌∷◌, ◌++◌, length, Option, Some, None, Result, Ok, Err}
 use Rattle.std.specs.Option.{option_map_or}
 use Rattle.vrx_io.specs.Source.{IsSpent}
-use Rattle.vrx_capture.specs.Line.{feed_place, lines_of, longest_line, most_lines, IsPart}
+use Rattle.vrx_capture.specs.Line.{feed_place, lines_of, longest_line, most_lines, IsOpenLine}
 use Rattle.vrx_capture.specs.Reading.{Reading, sound, bad_at, reading}
 use Rattle.vrx_capture.specs.Ahead.{ahead}
 use Rattle.vrx_capture.specs.declared.line.LineReason.{LineReason}
@@ -31,7 +31,8 @@ opening max = record { kept = []; ended = false; given = 0; events = 0; max = ma
 
 -- what lines say to a reader as the next ones; after a bad line they say only that
 abbrev pub says : Reader → List ℕ → Reading
-says reader octets = option_map_or bad_at reader.bad (reading reader.max (reader.given + 1) reader.events (lines_of octets))
+says reader octets =
+    option_map_or bad_at reader.bad (reading reader.max (reader.given + 1) reader.events (lines_of octets))
 
 -- octets are whole lines: there are none, or the last is a line feed
 abbrev pub AreWhole : List ℕ → Type 0
@@ -67,15 +68,20 @@ AllSayBad old new octets bad = (more : List ℕ) → MayFollow new more → says
 -- the answer to a call for the next event, if the reader read these octets and passed over these lines
 abbrev pub IsNext : Reader → Reader → List ℕ → List ℕ → Result Line LineFault → Type 0
 -- an event: the lines say it, and nothing else
-IsNext old new read gone (Ok (lines.Event k event)) = (says old gone ≡ sound ((k, event) ∷ [])) × (new.events ≡ old.events + 1) × (new.events ≤ new.max) × (new.bad ≡ None)
+IsNext old new read gone (Ok (lines.Event k event)) = (says old gone ≡ sound ((k, event) ∷ []))
+    × (new.events ≡ old.events + 1) × (new.events ≤ new.max) × (new.bad ≡ None)
 -- the end: the lines say nothing, no octet is kept, and the source was read to its end
-IsNext old new read gone (Ok lines.End) = (says old gone ≡ sound []) × (new.kept ≡ []) × (new.ended ≡ true) × (new.events ≡ old.events) × (new.bad ≡ None)
+IsNext old new read gone (Ok lines.End) =
+    (says old gone ≡ sound []) × (new.kept ≡ []) × (new.ended ≡ true) × (new.events ≡ old.events) × (new.bad ≡ None)
 -- a bad line: the octets say it, whatever follows them
-IsNext old new read gone (Err (faults.Bad k reason)) = AllSayBad old new (old.kept ++ read) (k, reason) × (new.events ≡ old.events) × (new.bad ≡ Some (k, reason))
+IsNext old new read gone (Err (faults.Bad k reason)) =
+    AllSayBad old new (old.kept ++ read) (k, reason) × (new.events ≡ old.events) × (new.bad ≡ Some (k, reason))
 -- a failed read: the lines say nothing, and no whole line is kept, but a part of one that may be taken yet
-IsNext old new read gone (Err faults.ReadFault) = (says old gone ≡ sound []) × HasNoFeed new.kept × (new.ended ≡ false) × (new.events ≡ old.events) × (new.bad ≡ None) × (length new.kept ≤ longest_line)
+IsNext old new read gone (Err faults.ReadFault) = (says old gone ≡ sound []) × HasNoFeed new.kept
+    × (new.ended ≡ false) × (new.events ≡ old.events) × (new.bad ≡ None) × (length new.kept ≤ longest_line)
 -- out of memory: the lines say nothing
-IsNext old new read gone (Err faults.NoMemory) = (says old gone ≡ sound []) × (new.events ≡ old.events) × (new.bad ≡ None)
+IsNext old new read gone (Err faults.NoMemory) =
+    (says old gone ≡ sound []) × (new.events ≡ old.events) × (new.bad ≡ None)
 
 -- octets that a reader kept and read are whole lines that say nothing, and a part of a line that may be taken yet
 pub record SayNothing (reader : Reader) (octets : List ℕ) : Type 0 where
@@ -83,7 +89,7 @@ pub record SayNothing (reader : Reader) (octets : List ℕ) : Type 0 where
   pub part : List ℕ
   pub are : octets ≡ lines ++ part
   pub whole : AreWhole lines
-  pub short : IsPart part
+  pub short : IsOpenLine part
   pub nothing : says reader lines ≡ sound []
 
 -- there is no line, or none that may be taken
@@ -97,10 +103,13 @@ abbrev pub IsHead : Reader → Reader → List ℕ → List ℕ → Option (List
 IsHead old new read gone (Some line) = (lines_of gone ≡ line ∷ []) × (length line ≤ longest_line)
 -- none: no line is left, or the next is too long, or so many were given already that it has no number; it is the next
 -- still
-IsHead old new read gone None = (gone ≡ []) × (old.given < most_lines → (more : List ℕ) → MayFollow new more → HasNoHead (lines_of (old.kept ++ read ++ more)))
+IsHead old new read gone None = (gone ≡ [])
+    × (old.given < most_lines → (more : List ℕ) → MayFollow new more →
+    HasNoHead (lines_of (old.kept ++ read ++ more)))
 
 -- a failed read, or out of memory: no line was passed over; and after a failed read no whole line is kept, but a
 -- part of one that may be taken yet
 abbrev pub IsHeadFault : Reader → List ℕ → HeadFault → Type 0
-IsHeadFault new gone heads.ReadFault = (gone ≡ []) × HasNoFeed new.kept × (new.ended ≡ false) × (length new.kept ≤ longest_line)
+IsHeadFault new gone heads.ReadFault =
+    (gone ≡ []) × HasNoFeed new.kept × (new.ended ≡ false) × (length new.kept ≤ longest_line)
 IsHeadFault new gone heads.NoMemory = gone ≡ []

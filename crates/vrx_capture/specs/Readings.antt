@@ -19,7 +19,8 @@ SaysNothing k line = (k ≤ most_lines) × (length line ≤ longest_line) × IsB
 
 -- line k reports an event, within the limits, after this many event lines of at most `max`
 abbrev pub SaysEvent : ℕ → ℕ → ℕ → List ℕ → Event → Type 0
-SaysEvent max k events line event = (k ≤ most_lines) × (length line ≤ longest_line) × (events < max) × Tells line event
+SaysEvent max k events line event =
+    (k ≤ most_lines) × (length line ≤ longest_line) × (events < max) × Tells line event
 
 -- No line is bad, of lines from number k on, after this many event lines: each says nothing or reports an event. They
 -- give these events in order, each with the number of its line.
@@ -27,11 +28,13 @@ abbrev pub AreGood : ℕ → ℕ → ℕ → List (List ℕ) → List (ℕ × Ev
 AreGood max k events [] given = given ≡ []
 AreGood max k events (line ∷ lines) given =
     (SaysNothing k line × AreGood max (k + 1) events lines given)
-    ⊎ ((event : Event) × (rest : List (ℕ × Event)) × SaysEvent max k events line event × (given ≡ (k, event) ∷ rest) × AreGood max (k + 1) (events + 1) lines rest)
+    ⊎ ((event : Event) × (rest : List (ℕ × Event)) × SaysEvent max k events line event × (given ≡ (k, event) ∷ rest)
+    × AreGood max (k + 1) (events + 1) lines rest)
 
 -- Of lines from number k on, after this many event lines, line j is the first bad one, for this reason; and the
 -- lines before it give these events.
-pub record HasBad (max k events : ℕ) (lines : List (List ℕ)) (given : List (ℕ × Event)) (j : ℕ) (reason : LineReason) : Type 0 where
+pub record HasBad (max k events : ℕ) (lines : List (List ℕ)) (given : List (ℕ × Event)) (j : ℕ)
+    (reason : LineReason) : Type 0 where
   pub before : List (List ℕ)
   pub line : List ℕ
   pub behind : List (List ℕ)

@@ -14,7 +14,8 @@ use Rattle.hex.specs.Hex.{decode_sized}
 use Rattle.vrx_core.specs.declared.settings.Settings.{Settings}
 use Rattle.vrx_core.specs.declared.settings.Red.{Red}
 use Rattle.vrx_core.specs.declared.settings.Rtx.{Rtx}
-use Rattle.vrx_capture.specs.Words.{◌>>=◌, behind, word, from_space, number_in}
+use Rattle.vrx_capture.specs.Words.{after_prefix, until_space, from_space, number_in}
+use Rattle.vrx_num.specs.OptionChain.{◌>>=◌}
 use Rattle.vrx_capture.specs.declared.settings_line.CodecName.{CodecName}
 use Rattle.vrx_capture.specs.declared.settings_line.CodecName.TheVariants.{Vp8, H264}
 
@@ -24,7 +25,8 @@ is_upper octet = nat_le 65 octet && nat_le octet 90
 
 -- an SSRC: eight hexadecimal digits, the highest first, the letters in lower case
 unfoldable pub ssrc_in : List ℕ → Option ℕ
-ssrc_in digits = if list_any is_upper digits then None else option_map (from_be_bytes w32) (result_ok (decode_sized digits 4))
+ssrc_in digits =
+    if list_any is_upper digits then None else option_map (from_be_bytes w32) (result_ok (decode_sized digits 4))
 
 -- the codec of a name
 abbrev pub codec_text : CodecName → List ℕ
@@ -57,19 +59,19 @@ usual_interval = 100
 -- a field: its name, and its value up to the next space or the end. It gives the value, and what stands after it
 unfoldable pub field : {A : Type 0} → List ℕ → (List ℕ → Option A) → List ℕ → Option (A × List ℕ)
 field name value_in text = do
-  told ← behind name text
-  value ← value_in (word told)
+  told ← after_prefix name text
+  value ← value_in (until_space told)
   Some (value, from_space told)
 
 -- what may be absent: it's read if the text begins with the name of its first field
-unfoldable pub part : {A : Type 0} → List ℕ → (List ℕ → Option (A × List ℕ)) → List ℕ → Option (Option A × List ℕ)
-part name read text =
-    if is_none (behind name text) then Some (None, text)
+unfoldable pub group_if : {A : Type 0} → List ℕ → (List ℕ → Option (A × List ℕ)) → List ℕ → Option (Option A × List ℕ)
+group_if name read text =
+    if is_none (after_prefix name text) then Some (None, text)
     else option_map (λ told. (Some told.0, told.1)) (read text)
 
 -- a field that may be absent
 abbrev pub field_if : {A : Type 0} → List ℕ → (List ℕ → Option A) → List ℕ → Option (Option A × List ℕ)
-field_if name value_in text = part name (field name value_in) text
+field_if name value_in text = group_if name (field name value_in) text
 
 -- RED: its payload type, and that of FEC in it, if there is one
 unfoldable pub red_in : List ℕ → Option (Red × List ℕ)
@@ -103,8 +105,8 @@ settings_in line = do
   codec ← field (codes "vrx 1 codec=") codec_in line
   media_ssrc ← field (codes " ssrc=") ssrc_in codec.1
   media_type ← field (codes " pt=") type_in media_ssrc.1
-  red ← part (codes " red=") red_in media_type.1
-  rtx ← part (codes " rtxssrc=") rtx_in red.1
+  red ← group_if (codes " red=") red_in media_type.1
+  rtx ← group_if (codes " rtxssrc=") rtx_in red.1
   from_ssrc ← field (codes " from=") ssrc_in rtx.1
   interval ← last_interval from_ssrc.1
   Some (

@@ -16,7 +16,7 @@
 //! how the answers of several calls join.
 #![tactic(auto)]
 
-mod held;
+mod buffer;
 mod laws;
 mod line;
 mod lines;

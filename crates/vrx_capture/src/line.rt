@@ -3,13 +3,14 @@
 ghost use Rattle.std.specs.Prelude.{◌≡◌, ◌&&◌, ◌||◌, ◌==◌, true, drop, IfOk};
 ghost use Rattle.std.specs.List.{list_any};
 ghost use Rattle.std.specs.Option.{option_map};
-ghost use Rattle.vrx_capture.specs.Line.{begins, is_blank, is_event, is_datagram, is_tick, told, moment_in, has_more, octets_in, bytes_in, event_line, line_at};
+ghost use Rattle.vrx_capture.specs.Line.{begins, is_blank, is_event, is_datagram, is_tick, after_letter, moment_in, has_more, octets_in, bytes_in, event_line, line_at};
 
-use crate::words::{behind, behind_word, from, number_in, place_of, word};
+use crate::words::{after_prefix, after_space, index_of, number_in, until_space};
 use hex::FromHexError;
 use std::alloc::Global;
 use vrx_core::{Event, EventBytes};
 use vrx_num::NoMemory;
+use vrx_num::slices::from;
 
 /// How many lines a capture may have.
 pub(crate) const MOST_LINES: u32 = 2_097_152;
@@ -54,7 +55,7 @@ pub enum LineReason {
 fn begins(prefix: &[u8], line: &[u8]) -> bool
     ensures { result ≡ begins prefix.now line.now }
 {
-    behind(prefix, line).is_some()
+    after_prefix(prefix, line).is_some()
 }
 
 /// Whether a line says nothing: it is empty or a comment.
@@ -89,7 +90,7 @@ fn is_event(line: &[u8]) -> bool
 fn moment_in(line: &[u8]) -> Option<u64>
     ensures { result ≡ moment_in line.now }
 {
-    number_in(LATEST_MOMENT, word(from(line, 2)))
+    number_in(LATEST_MOMENT, until_space(from(line, 2)))
 }
 
 /// Whether an event line goes on after its moment.
@@ -121,7 +122,7 @@ fn octets_in(alloc: Global, digits: &[u8]) -> Result<Option<Vec<u8>>, NoMemory>
 fn bytes_in(alloc: Global, line: &[u8]) -> Result<Option<EventBytes>, NoMemory>
     ensures { IfOk result (λ bytes. bytes ≡ bytes_in line.now) }
 {
-    match octets_in(alloc, behind_word(from(line, 2)))? {
+    match octets_in(alloc, after_space(from(line, 2)))? {
         Some(octets) => Ok(Some(EventBytes::from_vec(octets))),
         None => Ok(None),
     }

@@ -4,12 +4,12 @@ ghost use Rattle.std.specs.Prelude.{is_some, ◌≡◌, ◌≢◌, ℕ, ◌+◌,
 ghost use Rattle.std.specs.Option.{option_map};
 ghost use Rattle.vrx_io.specs.Faults.{Rose};
 ghost use Rattle.vrx_io.specs.Reads.{ReadsSo};
-ghost use Rattle.vrx_capture.specs.Line.{feed_place, line_at, longest_line, most_lines, IsPart};
-ghost use Rattle.vrx_capture.specs.Held.{ReadsOn};
+ghost use Rattle.vrx_capture.specs.Line.{feed_place, line_at, longest_line, most_lines, IsOpenLine};
+ghost use Rattle.vrx_capture.specs.Holding.{ReadsOn};
 ghost use Rattle.vrx_capture.specs.Found.{IsFound};
 ghost use Rattle.vrx_capture.specs.Step.{IsWithin};
 
-use crate::held::{Found, Held};
+use crate::buffer::{Buffer, Found};
 use crate::line::{LineKind, LineReason, MOST_LINES, read_line};
 use std::alloc::Global;
 use std::marker::Model;
@@ -61,7 +61,7 @@ fn kind_at(alloc: Global, max: u32, k: u32, events: u32, line: &[u8]) -> Result<
 }
 
 /// The octets in memory of their own.
-fn copied(alloc: Global, octets: &[u8]) -> Result<Vec<u8>, NoMemory>
+fn copy_of(alloc: Global, octets: &[u8]) -> Result<Vec<u8>, NoMemory>
     ensures { IfOk result (λ copy. copy.items ≡ octets.now) }
 {
     Ok(octets.to_vec(alloc)?)
@@ -74,7 +74,7 @@ fn copied(alloc: Global, octets: &[u8]) -> Result<Vec<u8>, NoMemory>
 #[derive(Drop)]
 pub struct Lines {
     alloc: Global,
-    held: Held,
+    held: Buffer,
     given: u32,
     events: u32,
     max: u32,
@@ -94,7 +94,7 @@ impl Model for Lines {
 
 impl Lines {
     ghost use Rattle.vrx_capture.specs.Reader.{opening, Passes, IsNext, IsHead, IsHeadFault, HasNoFeed, SayNothing};
-    ghost use Rattle.vrx_capture.specs.Step.{IsTaken, IsStep, KeepsCounts, held_by, long_reason, passed};
+    ghost use Rattle.vrx_capture.specs.Step.{IsTaken, IsStep, KeepsCounts, holding_of, long_reason, after_passing};
 
     /// A reader that has given nothing yet, and gives `max_events` events at most.
     pub fn new(alloc: Global, max_events: u32) -> Result<Lines, NoMemory>
@@ -102,7 +102,7 @@ impl Lines {
     {
         Ok(Lines {
             alloc,
-            held: Held::new(alloc)?,
+            held: Buffer::new(alloc)?,
             given: 0,
             events: 0,
             max: max_events,
@@ -113,8 +113,8 @@ impl Lines {
     /// What stands at the front of what is held and what the source has left.
     fn find<S: Source>(&mut self, source: &mut S) -> Result<Found, Failed>
         ensures found { IfOk result (IsFound self.new.kept self.new.ended) }
-        ensures reads { (reads : ReadsOn (held_by self.old) (held_by self.new) (S.left source.old) (S.left source.new)) ×
-            ReadsSo S.is_read IsPart self.old.kept source.old source.new reads.read }
+        ensures reads { (reads : ReadsOn (holding_of self.old) (holding_of self.new) (S.left source.old) (S.left source.new)) ×
+            ReadsSo S.is_read IsOpenLine self.old.kept source.old source.new reads.read }
         ensures counts { KeepsCounts self.old self.new }
         ensures idle { self.old.ended ≡ true → source.new ≡ source.old }
         ensures failed { OnErr result (HasNoFeed self.new.kept × (self.new.ended ≡ false) ×
@@ -148,7 +148,7 @@ impl Lines {
         requires within { len ≤ length self.old.kept }
         requires given { self.old.given + 1 ≤ most_lines }
         requires events { self.old.events + count ≤ self.old.max }
-        ensures { self.new ≡ passed self.old len count }
+        ensures { self.new ≡ after_passing self.old len count }
     {
         self.held.pass_line(len);
         self.given += 1;
@@ -201,9 +201,9 @@ impl Lines {
     }
 
     /// Takes the next line, if none was bad.
-    fn step<S: Source>(&mut self, source: &mut S) -> Result<Option<Line>, LineFault>
+    fn take_next<S: Source>(&mut self, source: &mut S) -> Result<Option<Line>, LineFault>
         requires { self.old.bad ≡ None }
-        ensures step { IsStep (ReadsSo S.is_read IsPart self.old.kept source.old source.new)
+        ensures step { IsStep (ReadsSo S.is_read IsOpenLine self.old.kept source.old source.new)
             self.old self.new (S.left source.old) (S.left source.new) result }
         ensures idle { self.old.ended ≡ true → source.new ≡ source.old }
         ensures passed { result ≡ Ok None →
@@ -236,7 +236,7 @@ impl Lines {
             S.faults source.new ≡ S.faults source.old }
     {
         'lines: loop {
-            match self.step(source) {
+            match self.take_next(source) {
                 Ok(Some(line)) => return Ok(line),
                 Ok(None) => {}
                 Err(fault) => return Err(fault),
@@ -273,10 +273,10 @@ impl Lines {
         requires within { len ≤ length self.old.kept }
         requires given { self.old.given + 1 ≤ most_lines }
         ensures line { IfOk result (λ line. line.items ≡ take len self.old.kept) }
-        ensures passed { OnOk result (self.new ≡ passed self.old len 0) }
+        ensures passed { OnOk result (self.new ≡ after_passing self.old len 0) }
         ensures err { OnErr result (self.new ≡ self.old) }
     {
-        let line = copied(self.alloc, self.held.front(len))?;
+        let line = copy_of(self.alloc, self.held.front(len))?;
         self.pass(len, 0);
         Ok(line)
     }
@@ -290,7 +290,7 @@ impl Lines {
             MatchResult result
             (λ head. IsHead self.old self.new passes.read passes.gone (option_map (λ line. line.items) head))
             (λ fault. IsHeadFault self.new passes.gone fault) ×
-            ReadsSo S.is_read IsPart self.old.kept source.old source.new passes.read }
+            ReadsSo S.is_read IsOpenLine self.old.kept source.old source.new passes.read }
         ensures counts { (self.new.events ≡ self.old.events) × (self.new.bad ≡ self.old.bad) }
         ensures idle { self.old.ended ≡ true → source.new ≡ source.old }
         ensures tells { is_some (S.left source.new) ≡ is_some (S.left source.old) }

@@ -10,9 +10,9 @@
 ghost use Rattle.std.specs.Prelude.{◌≡◌, codes};
 ghost use Rattle.std.specs.List.{list_any};
 ghost use Rattle.std.specs.Option.{option_map};
-ghost use Rattle.vrx_capture.specs.SettingsLine.{is_upper, ssrc_in, codec_in, type_in, interval_in, field, field_if, part, red_in, rtx_in, last_interval, settings_in};
+ghost use Rattle.vrx_capture.specs.SettingsLine.{is_upper, ssrc_in, codec_in, type_in, interval_in, field, field_if, group_if, red_in, rtx_in, last_interval, settings_in};
 
-use crate::words::{behind, from_space, number_in, word};
+use crate::words::{after_prefix, from_space, number_in, until_space};
 use hex::FromHex;
 use vrx_core::{Red, Rtx, Settings};
 
@@ -90,8 +90,8 @@ fn interval_in(digits: &[u8]) -> Option<u32>
 fn codec_field<'a>(name: &[u8], text: &'a [u8]) -> Option<(CodecName, &'a [u8])>
     ensures { option_map (λ x. (x.0, x.1.now)) result ≡ field name.now codec_in text.now }
 {
-    let told = behind(name, text)?;
-    let codec = codec_in(word(told))?;
+    let told = after_prefix(name, text)?;
+    let codec = codec_in(until_space(told))?;
     Some((codec, from_space(told)))
 }
 
@@ -100,8 +100,8 @@ fn codec_field<'a>(name: &[u8], text: &'a [u8]) -> Option<(CodecName, &'a [u8])>
 fn ssrc_field<'a>(name: &[u8], text: &'a [u8]) -> Option<(u32, &'a [u8])>
     ensures { option_map (λ x. (x.0, x.1.now)) result ≡ field name.now ssrc_in text.now }
 {
-    let told = behind(name, text)?;
-    let ssrc = ssrc_in(word(told))?;
+    let told = after_prefix(name, text)?;
+    let ssrc = ssrc_in(until_space(told))?;
     Some((ssrc, from_space(told)))
 }
 
@@ -110,8 +110,8 @@ fn ssrc_field<'a>(name: &[u8], text: &'a [u8]) -> Option<(u32, &'a [u8])>
 fn type_field<'a>(name: &[u8], text: &'a [u8]) -> Option<(u8, &'a [u8])>
     ensures { option_map (λ x. (x.0, x.1.now)) result ≡ field name.now type_in text.now }
 {
-    let told = behind(name, text)?;
-    let payload_type = type_in(word(told))?;
+    let told = after_prefix(name, text)?;
+    let payload_type = type_in(until_space(told))?;
     Some((payload_type, from_space(told)))
 }
 
@@ -120,17 +120,17 @@ fn type_field<'a>(name: &[u8], text: &'a [u8]) -> Option<(u8, &'a [u8])>
 fn interval_field<'a>(name: &[u8], text: &'a [u8]) -> Option<(u32, &'a [u8])>
     ensures { option_map (λ x. (x.0, x.1.now)) result ≡ field name.now interval_in text.now }
 {
-    let told = behind(name, text)?;
-    let interval = interval_in(word(told))?;
+    let told = after_prefix(name, text)?;
+    let interval = interval_in(until_space(told))?;
     Some((interval, from_space(told)))
 }
 
 /// The payload type of a field with this name, if the text begins with it, and what stands after it.
-#[tactic(auto, unfolding(crate::specs::SettingsLine::part))]
+#[tactic(auto, unfolding(crate::specs::SettingsLine::group_if))]
 fn type_field_if<'a>(name: &[u8], text: &'a [u8]) -> Option<(Option<u8>, &'a [u8])>
     ensures { option_map (λ x. (x.0, x.1.now)) result ≡ field_if name.now type_in text.now }
 {
-    if behind(name, text).is_none() {
+    if after_prefix(name, text).is_none() {
         return Some((None, text));
     }
     let (payload_type, rest) = type_field(name, text)?;
@@ -138,11 +138,11 @@ fn type_field_if<'a>(name: &[u8], text: &'a [u8]) -> Option<(Option<u8>, &'a [u8
 }
 
 /// The interval of a field with this name, if the text begins with it, and what stands after it.
-#[tactic(auto, unfolding(crate::specs::SettingsLine::part))]
+#[tactic(auto, unfolding(crate::specs::SettingsLine::group_if))]
 fn interval_field_if<'a>(name: &[u8], text: &'a [u8]) -> Option<(Option<u32>, &'a [u8])>
     ensures { option_map (λ x. (x.0, x.1.now)) result ≡ field_if name.now interval_in text.now }
 {
-    if behind(name, text).is_none() {
+    if after_prefix(name, text).is_none() {
         return Some((None, text));
     }
     let (interval, rest) = interval_field(name, text)?;
@@ -160,11 +160,11 @@ fn red_in(text: &[u8]) -> Option<(Red, &[u8])>
 }
 
 /// The payload types of RED, if the text begins with them, and what stands after them.
-#[tactic(auto, unfolding(crate::specs::SettingsLine::part))]
+#[tactic(auto, unfolding(crate::specs::SettingsLine::group_if))]
 fn red_if(text: &[u8]) -> Option<(Option<Red>, &[u8])>
-    ensures { option_map (λ x. (x.0, x.1.now)) result ≡ part (codes " red=") red_in text.now }
+    ensures { option_map (λ x. (x.0, x.1.now)) result ≡ group_if (codes " red=") red_in text.now }
 {
-    if behind(b" red=", text).is_none() {
+    if after_prefix(b" red=", text).is_none() {
         return Some((None, text));
     }
     let (red, rest) = red_in(text)?;
@@ -188,11 +188,11 @@ fn rtx_in(text: &[u8]) -> Option<(Rtx, &[u8])>
 }
 
 /// The stream of retransmissions, if the text begins with it, and what stands after it.
-#[tactic(auto, unfolding(crate::specs::SettingsLine::part))]
+#[tactic(auto, unfolding(crate::specs::SettingsLine::group_if))]
 fn rtx_if(text: &[u8]) -> Option<(Option<Rtx>, &[u8])>
-    ensures { option_map (λ x. (x.0, x.1.now)) result ≡ part (codes " rtxssrc=") rtx_in text.now }
+    ensures { option_map (λ x. (x.0, x.1.now)) result ≡ group_if (codes " rtxssrc=") rtx_in text.now }
 {
-    if behind(b" rtxssrc=", text).is_none() {
+    if after_prefix(b" rtxssrc=", text).is_none() {
         return Some((None, text));
     }
     let (rtx, rest) = rtx_in(text)?;

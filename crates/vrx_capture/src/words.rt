@@ -1,27 +1,14 @@
 //! Words and numbers of a line.
 
-ghost use Rattle.std.specs.Prelude.{◌≡◌, ℕ, ◌<◌, ◌≤◌, ◌^◌, ◌==◌, length, take, drop, IfSome};
+ghost use Rattle.std.specs.Prelude.{◌≡◌, ◌<◌, ◌≤◌, ◌^◌, ◌==◌, length, IfSome};
 ghost use Rattle.std.specs.List.{position_or_len};
 ghost use Rattle.std.specs.Option.{option_map};
-ghost use Rattle.vrx_capture.specs.Words.{behind, word, behind_word, number_in, from_space};
+ghost use Rattle.vrx_capture.specs.Words.{after_prefix, until_space, after_space, number_in, from_space};
 
-/// The octets from a place on: none if the text ends before it.
-pub(crate) fn from(text: &[u8], at: usize) -> &[u8]
-    ensures { result.now ≡ drop at text.now }
-{
-    if at < text.len() { &text[at..] } else { &[] }
-}
-
-/// The octets before a place.
-pub(crate) fn upto(text: &[u8], at: usize) -> &[u8]
-    requires { at ≤ length text.now }
-    ensures { result.now ≡ take at text.now }
-{
-    &text[..at]
-}
+use vrx_num::slices::{from, upto};
 
 /// The place of the first such octet, or the length if there is none.
-pub(crate) fn place_of(text: &[u8], octet: u8) -> usize
+pub(crate) fn index_of(text: &[u8], octet: u8) -> usize
     ensures place { result ≡ position_or_len (λ o. o == octet) text.now }
     ensures within { result ≤ length text.now }
 {
@@ -34,25 +21,25 @@ pub(crate) fn place_of(text: &[u8], octet: u8) -> usize
 }
 
 /// The octets before the first space, or all if there is none.
-#[tactic(auto, unfolding(crate::specs::Words::word))]
-pub(crate) fn word(text: &[u8]) -> &[u8]
-    ensures { result.now ≡ word text.now }
+#[tactic(auto, unfolding(crate::specs::Words::until_space))]
+pub(crate) fn until_space(text: &[u8]) -> &[u8]
+    ensures { result.now ≡ until_space text.now }
 {
-    upto(text, place_of(text, b' '))
+    upto(text, index_of(text, b' '))
 }
 
 /// The octets after the first space: none if there is none.
-#[tactic(auto, unfolding(crate::specs::Words::behind_word))]
-pub(crate) fn behind_word(text: &[u8]) -> &[u8]
-    ensures { result.now ≡ behind_word text.now }
+#[tactic(auto, unfolding(crate::specs::Words::after_space))]
+pub(crate) fn after_space(text: &[u8]) -> &[u8]
+    ensures { result.now ≡ after_space text.now }
 {
-    from(text, place_of(text, b' ') + 1)
+    from(text, index_of(text, b' ') + 1)
 }
 
 /// What stands after these octets, if the text begins with them.
-#[tactic(auto, unfolding(crate::specs::Words::behind))]
-pub(crate) fn behind<'a>(prefix: &[u8], text: &'a [u8]) -> Option<&'a [u8]>
-    ensures { option_map (λ rest. rest.now) result ≡ behind prefix.now text.now }
+#[tactic(auto, unfolding(crate::specs::Words::after_prefix))]
+pub(crate) fn after_prefix<'a>(prefix: &[u8], text: &'a [u8]) -> Option<&'a [u8]>
+    ensures { option_map (λ rest. rest.now) result ≡ after_prefix prefix.now text.now }
 {
     let [p, ps @ ..] = prefix else {
         return Some(text);
@@ -61,7 +48,7 @@ pub(crate) fn behind<'a>(prefix: &[u8], text: &'a [u8]) -> Option<&'a [u8]>
         return None;
     };
     if *octet == *p {
-        behind(ps, octets)
+        after_prefix(ps, octets)
     } else {
         None
     }
@@ -96,5 +83,5 @@ pub(crate) fn number_in(most: u64, digits: &[u8]) -> Option<u64>
 pub(crate) fn from_space(text: &[u8]) -> &[u8]
     ensures { result.now ≡ from_space text.now }
 {
-    from(text, place_of(text, b' '))
+    from(text, index_of(text, b' '))
 }

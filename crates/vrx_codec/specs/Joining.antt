@@ -1,10 +1,11 @@
 -- How a codec joins parts one after the other, and what that has to do with what it means.
-use Rattle.std.specs.Prelude.{◌≡◌, ℕ, ◌+◌, ◌*◌, ◌<◌, ◌≤◌, List, [], ◌∷◌, ◌++◌, length, All, None, IfSome, Result, Ok, Err}
+use Rattle.std.specs.Prelude.{◌≡◌, ℕ, ◌+◌, ◌*◌, ◌<◌, ◌≤◌, List, [], ◌∷◌, ◌++◌, length, None, IfSome, Result, Ok, Err}
 use Rattle.vrx_codec.specs.Part.{Part}
 use Rattle.vrx_codec.specs.declared.part.Layers.{Layers}
 use Rattle.vrx_codec.specs.declared.fault.JoinFault.{JoinFault}
 use Rattle.vrx_codec.specs.Meaning.{Meaning}
 use Rattle.vrx_codec.specs.declared.join.Join.{Join}
+use Rattle.vrx_num.specs.Octets.{AreOctets}
 
 -- what a part makes of what was joined before it, how many octets were joined in the end, and which octets a part
 -- adds
@@ -18,14 +19,14 @@ abbrev pub beginning : Join
 beginning = record { unit = None; octets = 0 }
 
 -- no more octets, if the end is right
-abbrev pub ended : Result ℕ JoinFault → Result (List ℕ) JoinFault
-ended (Ok octets) = Ok []
-ended (Err fault) = Err fault
+abbrev pub end_octets : Result ℕ JoinFault → Result (List ℕ) JoinFault
+end_octets (Ok octets) = Ok []
+end_octets (Err fault) = Err fault
 
 -- these octets, and what is joined after them
-abbrev pub with_front : List ℕ → Result (List ℕ) JoinFault → Result (List ℕ) JoinFault
-with_front front (Ok octets) = Ok (front ++ octets)
-with_front front (Err fault) = Err fault
+abbrev pub with_octets : List ℕ → Result (List ℕ) JoinFault → Result (List ℕ) JoinFault
+with_octets front (Ok octets) = Ok (front ++ octets)
+with_octets front (Err fault) = Err fault
 
 -- what comes next, if there was no fault
 abbrev pub and_then : Result Join JoinFault → (Join → Result (List ℕ) JoinFault) → Result (List ℕ) JoinFault
@@ -33,14 +34,10 @@ and_then (Ok state) next = next state
 and_then (Err fault) next = Err fault
 
 -- the octets that the parts add one after the other, from a state on
-abbrev pub joined : Joining → List Part → Join → Result (List ℕ) JoinFault
-joined joining [] state = ended (joining.end state)
-joined joining (part ∷ parts) state =
-    and_then (joining.step state part) (λ next. with_front (joining.adds state part) (joined joining parts next))
-
--- each is an octet
-abbrev pub AreOctets : List ℕ → Type 0
-AreOctets octets = All (λ octet. octet < 256) octets
+abbrev pub join_from : Joining → List Part → Join → Result (List ℕ) JoinFault
+join_from joining [] state = end_octets (joining.end state)
+join_from joining (part ∷ parts) state =
+    and_then (joining.step state part) (λ next. with_octets (joining.adds state part) (join_from joining parts next))
 
 -- the part that some payload reads as
 pub record IsPartRead (meaning : Meaning) (part : Part) : Type 0 where

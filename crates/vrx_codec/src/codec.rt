@@ -2,7 +2,8 @@
 
 ghost use Rattle.std.specs.Prelude.{◌≡◌, ℕ, ◌+◌, ◌^◌, ◌≤◌, ◌++◌, List, length, vec_len, vec_capacity, IsOk, IfOk};
 ghost use Rattle.vrx_codec.specs.declared.join.Join.{Join};
-ghost use Rattle.vrx_codec.specs.Joining.{Joining, beginning, joined, AreOctets, IsPartRead, IsWithin, Raises};
+ghost use Rattle.vrx_codec.specs.Joining.{Joining, beginning, join_from, IsPartRead, IsWithin, Raises};
+ghost use Rattle.vrx_num.specs.Octets.{AreOctets};
 ghost use Rattle.vrx_codec.specs.Meaning.{Meaning};
 ghost use Rattle.vrx_codec.specs.Part.{Part as PartSaid};
 ghost use Rattle.vrx_codec.specs.View.{view, view_result};
@@ -54,7 +55,7 @@ pub trait Codec {
     ghost within: { (payload : List ℕ) → AreOctets payload → IfOk (meaning.read payload) (λ part. IsWithin payload part) };
 
     /// Parts that join one after the other, from the beginning on, join to what the list of them does.
-    ghost joins: { (parts : List PartSaid) → joined joining parts beginning ≡ meaning.join parts };
+    ghost joins: { (parts : List PartSaid) → join_from joining parts beginning ≡ meaning.join parts };
 
     /// An end that is right answers the octets of the state.
     ghost counted: { (state : Join) → IfOk (joining.end state) (λ octets. octets ≡ state.octets) };

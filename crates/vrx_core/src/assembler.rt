@@ -12,18 +12,18 @@ ghost use Rattle.vrx_core.specs.relation.StandsFor.{IsAssembled};
 ghost use Rattle.vrx_core.specs.inside.Kept.{key_numbers};
 ghost use Rattle.vrx_core.specs.inside.Wants.{CanGiveUpAll, given_up_all, lost_from};
 ghost use Rattle.vrx_core.specs.inside.Seen.{view_taken};
-ghost use Rattle.vrx_core.specs.inside.Step.{IsPulledAs, IsTakenAs, counted, lowest_of as lowest_number, with_runs};
+ghost use Rattle.vrx_core.specs.inside.Step.{IsPulledAs, IsTakenAs, after_counting, lowest_of as lowest_number, with_runs};
 ghost use Rattle.vrx_core.specs.inside.Fields.{CanAddAll, IsArrival, IsCounted, IsHandedOut, IsHandled, IsFrameOf, IsWhole, MayBeTaken, after_pulled};
 
 use crate::count::Count;
+use crate::frame_bytes::frame_bytes;
 use crate::frames::Frames;
 use crate::front::front_after;
 use crate::held::held_of;
-use crate::joined::joined;
-use crate::original::{Brought, NotTaken};
+use crate::original::{NotTaken, PayloadSeen};
 use crate::reply::{Frame, FrameBytes, What};
 use crate::settings::{NewFault, Settings};
-use crate::verdict::{Taken, verdict};
+use crate::verdict::{TakenPacket, verdict};
 use std::alloc::Global;
 use std::marker::{Model, PhantomData};
 use vrx_codec::{Codec, Run};
@@ -91,12 +91,12 @@ fn answer_of(left: NotTaken) -> What
 }
 
 /// The answer to one that is taken.
-fn answer_taken(taken: &Taken<'_>) -> What
+fn answer_taken(taken: &TakenPacket<'_>) -> What
     ensures { result ≡ answer_taken_of (view_taken taken.now).0 (view_taken taken.now).1 }
 {
     match taken.seen.brought {
-        Brought::Media(_) => What::Media(taken.number),
-        Brought::Empty => What::Empty(taken.number),
+        PayloadSeen::Media(_) => What::Media(taken.number),
+        PayloadSeen::Empty => What::Empty(taken.number),
     }
 }
 
@@ -322,7 +322,7 @@ impl<C: Codec> Assembler<C> {
     /// Counts an event, and moves the clock.
     pub(crate) fn count(&mut self, moment: u64)
         requires room { self.old.events < MOST_EVENTS }
-        ensures counted { self.new ≡ counted self.old moment }
+        ensures counted { self.new ≡ after_counting self.old moment }
         ensures before { IsWhole C.meaning self.old }
         ensures after { IsWhole C.meaning self.new }
     {
@@ -389,7 +389,7 @@ impl<C: Codec> Assembler<C> {
     {
         // A law: what the runs are.
         runs_are();
-        let octets = joined::<C>(self.alloc, &self.window, run)?;
+        let octets = frame_bytes::<C>(self.alloc, &self.window, run)?;
         Ok(Frame {
             first: run.first,
             last: run.last,

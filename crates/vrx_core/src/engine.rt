@@ -50,10 +50,10 @@ pub struct Engine<C: Codec> {
 }
 
 impl<C: Codec> Model for Engine<C> {
-    ghost use Rattle.vrx_core.specs.relation.StandsFor.{Parts, parts_of};
+    ghost use Rattle.vrx_core.specs.relation.StandsFor.{EngineParts, parts_of};
     ghost use Rattle.vrx_core.specs.inside.Fields.{IsSound};
 
-    ghost Value = { Parts };
+    ghost Value = { EngineParts };
 
     ghost view = { λ a. parts_of a.assembler a.requests };
 
@@ -132,12 +132,12 @@ impl<C: Codec> Engine<C> {
     {
         match first_fault(&settings) {
             Some(fault) => Err(fault),
-            None => Engine::<C>::opened(alloc, settings),
+            None => Engine::<C>::with_settings(alloc, settings),
         }
     }
 
     /// An engine of settings that have no fault. Nothing but memory hinders it.
-    fn opened(alloc: Global, settings: Settings) -> Result<Engine<C>, NewFault>
+    fn with_settings(alloc: Global, settings: Settings) -> Result<Engine<C>, NewFault>
         ensures stands { IfOk result (λ engine. StandsFor C.meaning engine []) }
         ensures settings { IfOk result (λ engine. engine.settings ≡ settings) }
         ensures no_memory { IfErr result (λ fault. fault ≡ NewFault.NoMemory) }

@@ -4,7 +4,7 @@ ghost use Rattle.std.specs.Prelude.{◌≡◌, ◌+◌, ◌-◌, ◌^◌, ◌<�
 ghost use Rattle.std.specs.Option.{option_map_or};
 ghost use Rattle.vrx_window.specs.Content.{content_of, contents};
 ghost use Rattle.vrx_window.specs.Window.{at};
-ghost use Rattle.vrx_frames.specs.Front.{front_after as front_after_of, is_no_media as is_no_media_of, reached as reached_of};
+ghost use Rattle.vrx_frames.specs.Front.{front_after as front_after_of, is_no_media as is_no_media_of, reach_from as reached_of};
 
 use vrx_num::limits::WINDOW;
 use vrx_window::{Held, Window, contents_are};
@@ -42,7 +42,7 @@ fn goes_on(window: &Window, n: u64) -> bool
 }
 
 /// The greatest number reached from one over available numbers that are no media.
-fn reached(window: &Window, from: u64) -> u64
+fn reach_from(window: &Window, from: u64) -> u64
     ensures { result ≡ reached_of WINDOW from (contents window.now.packets) }
 {
     let mut n = from;
@@ -61,7 +61,7 @@ pub(crate) fn front_after(front: Option<u64>, last: Option<u64>, window: &Window
 {
     match (front, last) {
         (_, None) => None,
-        (None, Some(last)) => Some(reached(window, last)),
-        (Some(front), Some(last)) => Some(reached(window, front.max(last))),
+        (None, Some(last)) => Some(reach_from(window, last)),
+        (Some(front), Some(last)) => Some(reach_from(window, front.max(last))),
     }
 }

@@ -7,7 +7,7 @@ ghost use Rattle.vrx_window.specs.Sound.{IsSound, place_of};
 ghost use Rattle.vrx_core.specs.machine.Text.{packet_text};
 ghost use Rattle.vrx_core.specs.inside.Seen.{view_brought, IsSeen};
 
-use crate::original::{Brought, Seen};
+use crate::original::{PacketSeen, PayloadSeen};
 use crate::text::text_of;
 use std::alloc::Global;
 use vrx_codec::Codec;
@@ -19,7 +19,7 @@ use vrx_window::Held;
 pub(crate) fn held_of<C: Codec>(
     alloc: Global,
     octets: &[u8],
-    seen: &Seen<'_>,
+    seen: &PacketSeen<'_>,
 ) -> Result<Held, NoMemory>
     requires seen { IsSeen C.meaning octets.now seen.now }
     ensures content { IfOk result (λ held. content_of held ≡ view_brought (packet_text (view seen.now.packet)) seen.now.brought) }
@@ -28,7 +28,7 @@ pub(crate) fn held_of<C: Codec>(
 {
     one_reading();
     match seen.brought {
-        Brought::Media(part) => Ok(Held::Media {
+        PayloadSeen::Media(part) => Ok(Held::Media {
             text: text_of(alloc, octets, &seen.packet)?,
             marker: seen.packet.marker,
             ts: seen.packet.ts,
@@ -36,7 +36,7 @@ pub(crate) fn held_of<C: Codec>(
             key: part.key,
             layers: None,
         }),
-        Brought::Empty => Ok(Held::Empty {
+        PayloadSeen::Empty => Ok(Held::Empty {
             marker: seen.packet.marker,
         }),
     }

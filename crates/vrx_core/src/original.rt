@@ -26,7 +26,7 @@ pub enum NotTaken {
 
 /// What a packet of the stream brings.
 #[derive(Clone, Copy)]
-pub(crate) enum Brought<'a> {
+pub(crate) enum PayloadSeen<'a> {
     /// The part of a frame that its payload is.
     Media(Part<'a>),
     /// Nothing: it has no payload.
@@ -35,32 +35,35 @@ pub(crate) enum Brought<'a> {
 
 /// A packet of the stream, seen where it lies, and what it brings.
 #[derive(Clone, Copy)]
-pub(crate) struct Seen<'a> {
+pub(crate) struct PacketSeen<'a> {
     /// The packet.
     pub(crate) packet: RtpView<'a>,
     /// What it brings.
-    pub(crate) brought: Brought<'a>,
+    pub(crate) brought: PayloadSeen<'a>,
 }
 
 /// What a payload brings, or why it is refused.
-fn brought_in<'a, C: Codec>(payload: &'a [u8]) -> Result<Brought<'a>, Reason>
+fn brought_in<'a, C: Codec>(payload: &'a [u8]) -> Result<PayloadSeen<'a>, Reason>
     ensures content { (text : List ℕ) → content_by C.meaning text payload.now ≡ result_map_both (view_brought text) (λ reason. reason) result }
     ensures says { IfOk result (λ brought. Says C.meaning payload.now brought) }
 {
     if payload.is_empty() {
-        return Ok(Brought::Empty);
+        return Ok(PayloadSeen::Empty);
     }
     match C::read_part(payload) {
         Err(fault) => Err(Reason::BadPart { code: fault.code }),
         Ok(part) => match part.layers {
             Some(_) => Err(Reason::Form),
-            None => Ok(Brought::Media(part)),
+            None => Ok(PayloadSeen::Media(part)),
         },
     }
 }
 
 /// What a packet is, or why it is refused.
-fn original_of<'a, C: Codec>(settings: &Settings, packet: &RtpView<'a>) -> Result<Seen<'a>, Reason>
+fn original_of<'a, C: Codec>(
+    settings: &Settings,
+    packet: &RtpView<'a>,
+) -> Result<PacketSeen<'a>, Reason>
     ensures value { packet_original settings.now C.meaning (view packet.now) ≡ result_map_both view_original (λ reason. reason) result }
     ensures packet { IfOk result (λ seen. seen.packet ≡ packet.now) }
     ensures says { IfOk result (λ seen. Says C.meaning packet.now.payload.now seen.brought) }
@@ -73,7 +76,7 @@ fn original_of<'a, C: Codec>(settings: &Settings, packet: &RtpView<'a>) -> Resul
     }
     match brought_in::<C>(packet.payload) {
         Err(reason) => Err(reason),
-        Ok(brought) => Ok(Seen {
+        Ok(brought) => Ok(PacketSeen {
             packet: *packet,
             brought,
         }),
@@ -105,7 +108,10 @@ fn control(octets: &[u8]) -> NotTaken
 }
 
 /// What octets are that aren't RTCP, or why they are refused.
-fn original_in<'a, C: Codec>(settings: &Settings, octets: &'a [u8]) -> Result<Seen<'a>, Reason>
+fn original_in<'a, C: Codec>(
+    settings: &Settings,
+    octets: &'a [u8],
+) -> Result<PacketSeen<'a>, Reason>
     ensures value { original_read settings.now C.meaning (reading octets.now) ≡ result_map_both view_original (λ reason. reason) result }
     ensures reads { IfOk result (λ seen. packet_read octets.now ≡ Some (view seen.packet)) }
     ensures grammar { IfOk result (λ seen. IsPacket octets.now (view seen.packet)) }
@@ -121,7 +127,7 @@ fn original_in<'a, C: Codec>(settings: &Settings, octets: &'a [u8]) -> Result<Se
 pub(crate) fn original<'a, C: Codec>(
     settings: &Settings,
     octets: &'a [u8],
-) -> Result<Seen<'a>, NotTaken>
+) -> Result<PacketSeen<'a>, NotTaken>
     ensures value { original_of_octets settings.now C.meaning octets.now ≡ result_map_both view_original (λ left. left) result }
     ensures seen { IfOk result (λ seen. IsSeen C.meaning octets.now seen) }
 {

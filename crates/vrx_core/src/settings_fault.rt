@@ -2,14 +2,14 @@
 
 ghost use Rattle.std.specs.Prelude.{◌≡◌, ◌==◌, Some, None};
 ghost use Rattle.std.specs.List.{list_any};
-ghost use Rattle.vrx_core.specs.machine.SettingsFault.{given, types_of, ssrcs_of, is_bad_type as is_bad_type_of, holds as holds_of, has_equal as has_equal_of, lacks_red as lacks_red_of, is_bad_interval as is_bad_interval_of, fault_of as first_fault_of};
+ghost use Rattle.vrx_core.specs.machine.SettingsFault.{values_in, types_of, ssrcs_of, is_bad_type as is_bad_type_of, holds as holds_of, has_equal as has_equal_of, lacks_red as lacks_red_of, is_bad_interval as is_bad_interval_of, fault_of as first_fault_of};
 
 use crate::settings::{NewFault, Settings};
 use vrx_num::limits::LONGEST_INTERVAL;
 
 /// The payload types that may be given.
 fn types_in(settings: &Settings) -> [Option<u32>; 5]
-    ensures { given result ≡ types_of settings.now }
+    ensures { values_in result ≡ types_of settings.now }
 {
     let (red, fec) = match settings.red {
         None => (None, None),
@@ -33,7 +33,7 @@ fn types_in(settings: &Settings) -> [Option<u32>; 5]
 
 /// The SSRCs that may be given.
 fn ssrcs_in(settings: &Settings) -> [Option<u32>; 3]
-    ensures { given result ≡ ssrcs_of settings.now }
+    ensures { values_in result ≡ ssrcs_of settings.now }
 {
     [
         Some(settings.media_ssrc),
@@ -51,7 +51,7 @@ fn is_bad_type(payload_type: u32) -> bool
 
 /// Whether some payload type given is such a one.
 fn has_bad_type(types: &[Option<u32>]) -> bool
-    ensures { result ≡ list_any is_bad_type_of (given types.now) }
+    ensures { result ≡ list_any is_bad_type_of (values_in types.now) }
 {
     match types {
         [] => false,
@@ -62,7 +62,7 @@ fn has_bad_type(types: &[Option<u32>]) -> bool
 
 /// Whether a value is among those given.
 fn holds(values: &[Option<u32>], value: u32) -> bool
-    ensures { result ≡ holds_of (given values.now) value }
+    ensures { result ≡ holds_of (values_in values.now) value }
 {
     match values {
         [] => false,
@@ -73,7 +73,7 @@ fn holds(values: &[Option<u32>], value: u32) -> bool
 
 /// Whether two of the values given are equal.
 fn has_equal(values: &[Option<u32>]) -> bool
-    ensures { result ≡ has_equal_of (given values.now) }
+    ensures { result ≡ has_equal_of (values_in values.now) }
 {
     match values {
         [] => false,

@@ -3,7 +3,7 @@
 
 ghost use Rattle.std.specs.Prelude.{◌+◌, ◌==◌, if◌then◌else◌, nat_lt, refl, length, None, Ok, Err};
 ghost use Rattle.std.proofs.Common.{rules};
-ghost use Rattle.vrx_codec.specs.Joining.{beginning, joined};
+ghost use Rattle.vrx_codec.specs.Joining.{beginning, join_from};
 ghost use Rattle.vrx_codec.specs.declared.part.Start.TheVariants.{ByNeighbour};
 
 use super::*;
@@ -18,7 +18,7 @@ struct Silent;
 impl Codec for Silent {
     ghost meaning = { record {
       read = λ payload. Ok (record { start = ByNeighbour; key = nat_lt 1 (length payload); layers = None; body = payload });
-      join = λ parts. joined (record {
+      join = λ parts. join_from (record {
         step = λ state part. if length part.body == 3 then Err (record { code = 7 })
             else Ok (record { unit = None; octets = state.octets + length part.body });
         end = λ state. Ok state.octets;

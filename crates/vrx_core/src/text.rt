@@ -12,7 +12,7 @@ use vrx_num::NoMemory;
 use vrx_rtp::{RtpView, write};
 
 /// The packet written without its padding (RFC 3550 5.1: P = 0).
-fn written(alloc: Global, packet: &RtpView<'_>) -> Result<Bytes, NoMemory>
+fn bare_text(alloc: Global, packet: &RtpView<'_>) -> Result<Bytes, NoMemory>
     requires fits { Fits (view packet.now) }
     ensures text { IfOk result (λ text. text ≡ packet_text (view packet.now)) }
 {
@@ -32,6 +32,6 @@ pub(crate) fn text_of(alloc: Global, octets: &[u8], packet: &RtpView<'_>) -> Res
     if packet.padding == 0 {
         Ok(Bytes::copy_from_slice(alloc, octets)?)
     } else {
-        written(alloc, packet)
+        bare_text(alloc, packet)
     }
 }

@@ -8,7 +8,7 @@ ghost use Rattle.vrx_window.specs.declared.placing.Placing.TheVariants as placin
 ghost use Rattle.vrx_core.specs.machine.Verdict.{verdict as verdict_of};
 ghost use Rattle.vrx_core.specs.inside.Seen.{view_taken, IsSeen};
 
-use crate::original::{NotTaken, Seen, original};
+use crate::original::{NotTaken, PacketSeen, original};
 use crate::reply::Reason;
 use crate::settings::Settings;
 use vrx_codec::Codec;
@@ -18,11 +18,11 @@ use vrx_window::{Placing, Window, contents_are};
 
 /// What a datagram is taken as.
 #[derive(Clone, Copy)]
-pub(crate) struct Taken<'a> {
+pub(crate) struct TakenPacket<'a> {
     /// Its extended sequence number.
     pub(crate) number: u64,
     /// Its packet, and what that brings.
-    pub(crate) seen: Seen<'a>,
+    pub(crate) seen: PacketSeen<'a>,
 }
 
 /// What a datagram is taken as, or what becomes of it. It takes no memory.
@@ -31,7 +31,7 @@ pub(crate) fn verdict<'a, C: Codec>(
     extender: &Extender,
     window: &Window,
     octets: &'a [u8],
-) -> Result<Taken<'a>, NotTaken>
+) -> Result<TakenPacket<'a>, NotTaken>
     requires same { extender.now ≡ window.now.newest }
     ensures value { verdict_of settings.now C.meaning (contents_of window.now) octets.now ≡ result_map_both view_taken (λ left. left) result }
     ensures seen { IfOk result (λ taken. IsSeen C.meaning octets.now taken.seen) }
@@ -49,6 +49,6 @@ pub(crate) fn verdict<'a, C: Codec>(
         Placing::TooOld => Err(NotTaken::Refused(Reason::TooOld)),
         Placing::Dead => Err(NotTaken::Refused(Reason::Dead)),
         Placing::Repeat => Err(NotTaken::Refused(Reason::Repeat)),
-        Placing::Fresh => Ok(Taken { number, seen }),
+        Placing::Fresh => Ok(TakenPacket { number, seen }),
     }
 }

@@ -13,14 +13,15 @@ is_no_media Empty = true
 
 -- the greatest number reached from a number over available numbers that are no media, without a gap, in at most so
 -- many steps
-abbrev pub reached : ℕ → ℕ → Packets → ℕ
-reached zero from packets = from
-reached (suc more) from packets = if option_map_or is_no_media (at (from + 1) packets) false then reached more (from + 1) packets else from
+abbrev pub reach_from : ℕ → ℕ → Packets → ℕ
+reach_from zero from packets = from
+reach_from (suc more) from packets =
+    if option_map_or is_no_media (at (from + 1) packets) false then reach_from more (from + 1) packets else from
 
 -- the front after an event: nothing is passed before the first frame is pulled. After it, all numbers are up to the
 -- front before and up to the last number of the last frame pulled, and on over available numbers that are no media:
 -- at most the 2,048 of the window
 abbrev pub front_after : Option ℕ → Option ℕ → Packets → Option ℕ
 front_after before None packets = None
-front_after None (Some last) packets = Some (reached WINDOW last packets)
-front_after (Some front) (Some last) packets = Some (reached WINDOW (max front last) packets)
+front_after None (Some last) packets = Some (reach_from WINDOW last packets)
+front_after (Some front) (Some last) packets = Some (reach_from WINDOW (max front last) packets)

@@ -24,7 +24,8 @@ ArePieces codec packets n [] = Unit {0}
 ArePieces codec packets n (piece ∷ pieces) = IsPiece codec packets n piece × ArePieces codec packets (n + 1) pieces
 
 -- a run whose starts are those of a test, and whose place is that of its first number
-pub record IsRunBy (codec : Meaning) (place : ℕ → Option Place) (starts : Piece → Bool) (packets : Packets) (run : Run) : Type 0 where
+pub record IsRunBy (codec : Meaning) (place : ℕ → Option Place) (starts : Piece → Bool) (packets : Packets)
+    (run : Run) : Type 0 where
   -- its numbers, from the first to the last, are each available media
   pub pieces : List Piece
   pub from_first : ArePieces codec packets run.first pieces
@@ -51,7 +52,8 @@ RunsAre = (codec : Meaning) (place : ℕ → Option Place) (starts : Piece → B
 -- among packets in the order of their numbers the runs rise by their first numbers: at most one begins at a number
 abbrev pub RunsRise : Type 0
 RunsRise = (codec : Meaning) (place : ℕ → Option Place) (starts : Piece → Bool) (packets : Packets) →
-    is_sorted nat_cmp packets ≡ true → IsStrictlySortedBy (λ (a b : Run). nat_cmp a.first b.first) (runs_by codec place starts packets)
+    is_sorted nat_cmp packets ≡ true →
+    IsStrictlySortedBy (λ (a b : Run). nat_cmp a.first b.first) (runs_by codec place starts packets)
 
 -- a number lies in a run
 abbrev pub LiesIn : ℕ → Run → Type 0
@@ -59,5 +61,6 @@ LiesIn n run = (run.first ≤ n) × (n ≤ run.last)
 
 -- two runs with a common number are one
 abbrev pub RunsApart : Type 0
-RunsApart = (codec : Meaning) (place : ℕ → Option Place) (starts : Piece → Bool) (packets : Packets) (a b : Run) (n : ℕ) →
+RunsApart =
+    (codec : Meaning) (place : ℕ → Option Place) (starts : Piece → Bool) (packets : Packets) (a b : Run) (n : ℕ) →
     IsRunBy codec place starts packets a → IsRunBy codec place starts packets b → LiesIn n a → LiesIn n b → a ≡ b

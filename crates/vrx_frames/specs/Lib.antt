@@ -1,9 +1,10 @@
 pub mod Completed
 pub mod Front
 pub mod IsRun
-pub mod Judged
+pub mod Judging
 pub mod Kept
 pub mod Linked
 pub mod Marked
 pub mod Run
 pub mod Shape
+pub mod Parts

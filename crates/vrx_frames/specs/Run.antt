@@ -9,19 +9,15 @@ use Rattle.vrx_codec.specs.Part.{Part}
 use Rattle.vrx_codec.specs.declared.part.Start.{Start}
 use Rattle.vrx_codec.specs.declared.part.Start.TheVariants.{Yes, No, ByNeighbour}
 use Rattle.vrx_codec.specs.declared.run.Place.{Place}
-use Rattle.vrx_codec.specs.declared.run.Run.{Run as RunTold}
+use Rattle.vrx_codec.specs.declared.run.Run.{Run as RunSummary}
 use Rattle.vrx_codec.specs.Meaning.{Meaning}
 use Rattle.vrx_window.specs.Content.{Content, Media, Fec, Empty}
 use Rattle.vrx_window.specs.Window.{at, is_available}
+use Rattle.vrx_num.specs.OptionChain.{◌>>=◌}
 
 -- what stands under numbers, in their order
 abbrev pub Packets : Type 0
 Packets = List (ℕ × Content)
-
-infixl 10 ◌>>=◌
-abbrev pub ◌>>=◌ : {A B : Type 0} → Option A → (A → Option B) → Option B
-None >>= f = None
-(Some x) >>= f = f x
 
 -- a number that is available media: its packet, and what its payload says
 pub record Piece : Type 0 where
@@ -74,8 +70,8 @@ is_passed None n = false
 is_passed (Some front) n = nat_le n front
 
 -- n and the number before are both available, and the number before ends a frame
-abbrev pub stands_behind : ℕ → Packets → Bool
-stands_behind n packets = is_available n packets && option_map_or ends_frame (at (n - 1) packets) false
+abbrev pub stands_after_end : ℕ → Packets → Bool
+stands_after_end n packets = is_available n packets && option_map_or ends_frame (at (n - 1) packets) false
 
 -- what the payload says, or else the packet before it
 abbrev pub begins : Start → Bool → Bool
@@ -113,19 +109,27 @@ pub record Run : Type 0 where
 abbrev pub run_of : Meaning → (ℕ → Option Place) → (Piece → Bool) → ℕ → List Piece → Option Run
 run_of codec place starts last [] = None
 run_of codec place starts last (piece ∷ pieces) =
-    if list_all (λ p. p.packet.ts == piece.packet.ts) pieces && first_alone starts (piece ∷ pieces) && last_alone (λ p. p.packet.marker) (piece ∷ pieces)
-    then option_map (λ bytes. record { first = piece.number; last = last; ts = piece.packet.ts; key = list_any (λ p. p.part.key) (piece ∷ pieces); layers = place piece.number; bytes = bytes }) (result_ok (codec.join (map (λ p. p.part) (piece ∷ pieces))))
+    if list_all (λ p. p.packet.ts == piece.packet.ts) pieces && first_alone starts (piece ∷ pieces) && last_alone
+    (λ p. p.packet.marker) (piece ∷ pieces)
+    then option_map (λ bytes.
+    record {
+    first = piece.number; last = last; ts = piece.packet.ts; key =
+    list_any (λ p. p.part.key) (piece ∷ pieces); layers = place piece.number; bytes =
+    bytes }) (result_ok (codec.join (map (λ p. p.part) (piece ∷ pieces))))
     else None
 
 -- the runs whose starts are those of this test, by their first number and then by their last
 abbrev pub runs_by : Meaning → (ℕ → Option Place) → (Piece → Bool) → Packets → List Run
-runs_by codec place starts packets = flat_map (λ first. filter_map (λ last. stretch codec packets first last >>= run_of codec place starts last) numbers) numbers where
+runs_by codec place starts packets =
+    flat_map (λ first. filter_map
+    (λ last. stretch codec packets first last >>= run_of codec place starts last) numbers) numbers where
   numbers : List ℕ
   numbers = map (λ entry. entry.0) packets
 
 -- what is told of a run
-abbrev pub told_of : Run → RunTold
-told_of run = record { first = run.first; last = run.last; ts = run.ts; key = run.key; layers = run.layers; octets = length run.bytes }
+abbrev pub summary_of : Run → RunSummary
+summary_of run = record {
+    first = run.first; last = run.last; ts = run.ts; key = run.key; layers = run.layers; octets = length run.bytes }
 
 -- a run stands if it begins beyond this number, or if there is no number
 abbrev pub stands : Option ℕ → Run → Bool

@@ -7,7 +7,8 @@ ghost use Rattle.vrx_codec.specs.View.{view};
 ghost use Rattle.vrx_window.specs.Content.{Media, contents_of};
 ghost use Rattle.vrx_window.specs.Sound.{AreSound, place_at};
 ghost use Rattle.vrx_window.specs.Window.{at};
-ghost use Rattle.vrx_frames.specs.Judged.{AreMedia, is_media, judged, octets_of, part_at, part_of, parts_from, says_key};
+ghost use Rattle.vrx_frames.specs.Judging.{AreMedia, span_summary, octets_of, says_key};
+ghost use Rattle.vrx_frames.specs.Parts.{is_media, part_at, part_of, parts_from};
 
 use crate::search::Span;
 use vrx_codec::{Codec, Join, Part, Place, Run};
@@ -126,7 +127,7 @@ pub(crate) fn judge<C: Codec>(window: &Window, span: Span) -> Option<Run>
     requires upto { span.first ≤ span.last }
     requires media { AreMedia window.now.packets span.first (span.last - span.first + 1) }
     requires few { span.last - span.first + 1 ≤ WINDOW }
-    ensures { result ≡ judged C.meaning (place_at window.now.packets) (contents_of window.now).packets span }
+    ensures { result ≡ span_summary C.meaning (place_at window.now.packets) (contents_of window.now).packets span }
 {
     let count = span.last - span.first + 1;
     match octets_of::<C>(window, span.first, count) {

@@ -5,6 +5,7 @@
 //! `specs/IsRun.antt` says what a run is, and `specs/Completed.antt` what a call answers.
 #![tactic(auto)]
 
+mod arrival;
 mod judge;
 mod keep;
 mod laws;
@@ -14,7 +15,6 @@ mod search;
 mod shape;
 #[cfg(test)]
 mod tests;
-mod told;
 
 pub use laws::{runs_apart, runs_are, runs_rise};
 pub use runs::Runs;

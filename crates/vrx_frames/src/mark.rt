@@ -5,11 +5,11 @@ ghost use Rattle.vrx_window.specs.Numbered.{IsNumbered};
 ghost use Rattle.vrx_window.specs.Window.{at, in_window};
 ghost use Rattle.vrx_frames.specs.Completed.{IsUpTo};
 ghost use Rattle.vrx_frames.specs.Kept.{IsKept};
-ghost use Rattle.vrx_frames.specs.Linked.{fact_at, starts_at, Reached, SpanFound};
-ghost use Rattle.vrx_frames.specs.Marked.{counts, marked_at, IsChain, IsMarked, IsMarkedBefore, IsSpread, Looked};
+ghost use Rattle.vrx_frames.specs.Linked.{fact_at, starts_at, IsReach, SpanFound};
+ghost use Rattle.vrx_frames.specs.Marked.{counts, mark_with, IsChain, IsMarked, IsMarkedBefore, IsSpread, WasLookedAt};
 
+use crate::arrival::{Arrival, Fact, follows, is_passed};
 use crate::search::{Span, fact_at, has_marker, reach, starts_at};
-use crate::told::{Fact, Told, follows, is_passed};
 use vrx_num::limits::WINDOW;
 use vrx_window::Ring;
 
@@ -22,7 +22,7 @@ fn mark(marks: &mut Ring<u64>, from: u64, last: u64, newest: u64, first: u64)
     requires last { last ≤ newest }
     ensures newest { marks.new.newest ≡ Some newest }
     ensures numbered { IsNumbered marks.new }
-    ensures entries { (m : ℕ) → at m marks.new.entries ≡ marked_at from last first marks.old.entries m }
+    ensures entries { (m : ℕ) → at m marks.new.entries ≡ mark_with from last first marks.old.entries m }
 {
     let count = last - from + 1;
     for k in 0..count {
@@ -33,7 +33,7 @@ fn mark(marks: &mut Ring<u64>, from: u64, last: u64, newest: u64, first: u64)
 /// Spreads a mark from a number to those that are linked to it on the way up, and gives the last of them.
 fn spread(
     marks: &mut Ring<u64>,
-    ring: &Ring<Told>,
+    ring: &Ring<Arrival>,
     passed: Option<u64>,
     n: u64,
     here: Fact,
@@ -42,7 +42,7 @@ fn spread(
     requires here { fact_at passed ring.now.entries n ≡ Some here }
     requires newest { marks.old.newest ≡ ring.now.newest }
     requires numbered { IsNumbered marks.old }
-    ensures reached { Reached (fact_at passed ring.now.entries) here.ts n result }
+    ensures reached { IsReach (fact_at passed ring.now.entries) here.ts n result }
     ensures spread { IsSpread (fact_at passed ring.now.entries) n first marks.old.entries marks.new.entries }
     ensures newest { marks.new.newest ≡ marks.old.newest }
     ensures numbered { IsNumbered marks.new }
@@ -70,7 +70,7 @@ fn counts(newest: Option<u64>, passed: Option<u64>, first: u64) -> bool
 /// The first number of the chain to a number, by the mark of the number before it.
 fn start_of(
     marks: &Ring<u64>,
-    ring: &Ring<Told>,
+    ring: &Ring<Arrival>,
     passed: Option<u64>,
     n: u64,
     here: Fact,
@@ -101,7 +101,7 @@ fn start_of(
 /// The number's mark is spread from it.
 pub(crate) fn span_of(
     marks: &mut Ring<u64>,
-    ring: &Ring<Told>,
+    ring: &Ring<Arrival>,
     passed: Option<u64>,
     n: u64,
 ) -> Option<Span>
@@ -110,7 +110,7 @@ pub(crate) fn span_of(
     requires numbered { IsNumbered marks.old }
     requires before { IsMarkedBefore (fact_at passed ring.now.entries) (counts ring.now.newest passed) (starts_at passed ring.now.entries n) n marks.old.entries }
     ensures found { SpanFound (fact_at passed ring.now.entries) passed n result }
-    ensures looked { Looked (fact_at passed ring.now.entries) (counts ring.now.newest passed) n marks.old.entries marks.new.entries }
+    ensures looked { WasLookedAt (fact_at passed ring.now.entries) (counts ring.now.newest passed) n marks.old.entries marks.new.entries }
     ensures newest { marks.new.newest ≡ marks.old.newest }
     ensures numbered { IsNumbered marks.new }
 {
@@ -140,7 +140,7 @@ pub(crate) fn span_of(
 /// Raises the front of the passed numbers: the number after it may newly be a start.
 pub(crate) fn raise(
     marks: &mut Ring<u64>,
-    ring: &Ring<Told>,
+    ring: &Ring<Arrival>,
     earlier: Option<u64>,
     passed: Option<u64>,
 )

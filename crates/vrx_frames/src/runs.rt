@@ -9,15 +9,15 @@ ghost use Rattle.vrx_window.specs.Content.{contents_of};
 ghost use Rattle.vrx_window.specs.Numbered.{IsNumbered};
 ghost use Rattle.vrx_window.specs.Sound.{AreSound, place_at};
 ghost use Rattle.vrx_window.specs.Window.{is_available};
-ghost use Rattle.vrx_frames.specs.Completed.{AreStill, Completes, IsUpTo, known_with, nothing_told, standing};
-ghost use Rattle.vrx_frames.specs.Judged.{AnswerFound, AreHeld};
+ghost use Rattle.vrx_frames.specs.Completed.{AreStill, Completes, IsUpTo, known_with, nothing_known, standing_runs};
+ghost use Rattle.vrx_frames.specs.Judging.{AnswerFound, AreHeld};
 ghost use Rattle.vrx_frames.specs.Linked.{fact_at, starts_at};
-ghost use Rattle.vrx_frames.specs.Marked.{counts, IsMarkedBefore, Looked, NextFound};
+ghost use Rattle.vrx_frames.specs.Marked.{counts, IsMarkedBefore, WasLookedAt, NextFound};
 
+use crate::arrival::Arrival;
 use crate::judge::judge;
-use crate::keep::{held_shape, next_starts, tell};
+use crate::keep::{held_shape, next_starts, note};
 use crate::mark::{raise, span_of};
-use crate::told::Told;
 use arrayvec::ArrayVec;
 use std::alloc::Global;
 use std::marker::{Model, PhantomData};
@@ -32,7 +32,7 @@ use vrx_window::{Ring, Window};
 /// taken once.
 #[derive(Drop)]
 pub struct Runs<C: Codec> {
-    ring: Ring<Told>,
+    ring: Ring<Arrival>,
     marks: Ring<u64>,
     passed: Option<u64>,
     codec: PhantomData<C>,
@@ -54,7 +54,7 @@ impl<C: Codec> Model for Runs<C> {
 impl<C: Codec> Runs<C> {
     /// Nothing was told yet. Only this call takes memory.
     pub fn new(alloc: Global) -> Result<Runs<C>, NoMemory>
-        ensures nothing { IfOk result (λ runs. runs ≡ nothing_told) }
+        ensures nothing { IfOk result (λ runs. runs ≡ nothing_known) }
     {
         let ring = Ring::new(alloc)?;
         let marks = Ring::new(alloc)?;
@@ -81,14 +81,14 @@ impl<C: Codec> Runs<C> {
     ) -> ArrayVec<Run, 2>
         requires sound { AreSound C.meaning window.now.packets }
         requires held { is_available arrived window.now.packets ≡ true }
-        requires fresh { is_available arrived self.old.told ≡ false }
+        requires fresh { is_available arrived self.old.arrivals ≡ false }
         requires newest { IsUpTo self.old.newest window.now.newest }
         requires passed { IsUpTo self.old.passed passed }
-        requires same { AreStill C.meaning window.now.newest (contents_of window.now).packets self.old.told }
+        requires same { AreStill C.meaning window.now.newest (contents_of window.now).packets self.old.arrivals }
         ensures known { self.new ≡ known_with C.meaning window.now.newest arrived passed (contents_of window.now).packets self.old }
         ensures completes { let packets = (contents_of window.now).packets in
             let place = place_at window.now.packets in
-            Completes (standing C.meaning place passed self.old packets) (standing C.meaning place passed self.new packets) result.items }
+            Completes (standing_runs C.meaning place passed self.old packets) (standing_runs C.meaning place passed self.new packets) result.items }
         ensures rise { IsStrictlySortedBy (λ (a b : Run). nat_cmp a.first b.first) result.items }
     {
         match (window.newest(), window.held(arrived)) {
@@ -96,7 +96,7 @@ impl<C: Codec> Runs<C> {
                 raise(&mut self.marks, &self.ring, self.passed, passed);
                 self.passed = passed;
                 let before = next_starts(&self.ring, passed, arrived, newest);
-                tell(&mut self.ring, newest, arrived, held_shape(held));
+                note(&mut self.ring, newest, arrived, held_shape(held));
                 self.marks.move_to(newest);
                 let after = next_starts(&self.ring, passed, arrived, newest);
                 let newly = begins_newly(before, after);
@@ -109,7 +109,7 @@ impl<C: Codec> Runs<C> {
                     newly,
                 );
                 let first = run_around::<C>(window, &self.ring, &mut self.marks, passed, arrived);
-                listed(first, second)
+                list_of(first, second)
             }
             _ => unreachable!(),
         }
@@ -120,7 +120,7 @@ impl<C: Codec> Runs<C> {
 /// spread from it.
 fn run_around<C: Codec>(
     window: &Window,
-    ring: &Ring<Told>,
+    ring: &Ring<Arrival>,
     marks: &mut Ring<u64>,
     passed: Option<u64>,
     n: u64,
@@ -132,7 +132,7 @@ fn run_around<C: Codec>(
     requires marks { IsNumbered marks.old }
     requires before { IsMarkedBefore (fact_at passed ring.now.entries) (counts ring.now.newest passed) (starts_at passed ring.now.entries n) n marks.old.entries }
     ensures found { AnswerFound C.meaning (place_at window.now.packets) (contents_of window.now).packets (fact_at passed ring.now.entries) passed n result }
-    ensures looked { Looked (fact_at passed ring.now.entries) (counts ring.now.newest passed) n marks.old.entries marks.new.entries }
+    ensures looked { WasLookedAt (fact_at passed ring.now.entries) (counts ring.now.newest passed) n marks.old.entries marks.new.entries }
     ensures newest { marks.new.newest ≡ marks.old.newest }
     ensures numbered { IsNumbered marks.new }
 {
@@ -145,7 +145,7 @@ fn run_around<C: Codec>(
 /// The same for the number after this one, if it begins newly.
 fn run_after<C: Codec>(
     window: &Window,
-    ring: &Ring<Told>,
+    ring: &Ring<Arrival>,
     marks: &mut Ring<u64>,
     passed: Option<u64>,
     n: u64,
@@ -177,7 +177,7 @@ fn begins_newly(before: bool, after: bool) -> bool
 }
 
 /// Those that are there, as a list.
-fn listed(first: Option<Run>, second: Option<Run>) -> ArrayVec<Run, 2>
+fn list_of(first: Option<Run>, second: Option<Run>) -> ArrayVec<Run, 2>
     ensures { result.items ≡ cons_option first (cons_option second []) }
 {
     let mut runs = ArrayVec::new();

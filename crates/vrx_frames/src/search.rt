@@ -1,9 +1,9 @@
 //! Finds the frame that a number lies in, by the shapes of the numbers told.
 
 ghost use Rattle.std.specs.Prelude.{◌≡◌, Some};
-ghost use Rattle.vrx_frames.specs.Linked.{ends_at, fact_at, marker_at, starts_at, Reached};
+ghost use Rattle.vrx_frames.specs.Linked.{ends_at, fact_at, marker_at, starts_at, IsReach};
 
-use crate::told::{Fact, Told, ends, fact_of, follows};
+use crate::arrival::{Arrival, Fact, ends, fact_of, follows};
 use vrx_window::Ring;
 
 /// Numbers that are a whole frame, but for the joining of its parts.
@@ -18,7 +18,7 @@ pub(crate) struct Span {
 }
 
 /// Whether a number was told, and a frame begins after it.
-pub(crate) fn ends_at(ring: &Ring<Told>, n: u64) -> bool
+pub(crate) fn ends_at(ring: &Ring<Arrival>, n: u64) -> bool
     ensures { result ≡ ends_at ring.now.entries n }
 {
     match ring.get(n) {
@@ -28,7 +28,7 @@ pub(crate) fn ends_at(ring: &Ring<Told>, n: u64) -> bool
 }
 
 /// A number, as the search sees it, if it was told and is media.
-pub(crate) fn fact_at(ring: &Ring<Told>, passed: Option<u64>, n: u64) -> Option<Fact>
+pub(crate) fn fact_at(ring: &Ring<Arrival>, passed: Option<u64>, n: u64) -> Option<Fact>
     ensures { result ≡ fact_at passed ring.now.entries n }
 {
     match ring.get(n) {
@@ -38,7 +38,7 @@ pub(crate) fn fact_at(ring: &Ring<Told>, passed: Option<u64>, n: u64) -> Option<
 }
 
 /// Whether a number told is a start.
-pub(crate) fn starts_at(ring: &Ring<Told>, passed: Option<u64>, n: u64) -> bool
+pub(crate) fn starts_at(ring: &Ring<Arrival>, passed: Option<u64>, n: u64) -> bool
     ensures { result ≡ starts_at passed ring.now.entries n }
 {
     match fact_at(ring, passed, n) {
@@ -48,7 +48,7 @@ pub(crate) fn starts_at(ring: &Ring<Told>, passed: Option<u64>, n: u64) -> bool
 }
 
 /// Whether a number told has the marker.
-pub(crate) fn has_marker(ring: &Ring<Told>, passed: Option<u64>, n: u64) -> bool
+pub(crate) fn has_marker(ring: &Ring<Arrival>, passed: Option<u64>, n: u64) -> bool
     ensures { result ≡ marker_at passed ring.now.entries n }
 {
     match fact_at(ring, passed, n) {
@@ -58,9 +58,9 @@ pub(crate) fn has_marker(ring: &Ring<Told>, passed: Option<u64>, n: u64) -> bool
 }
 
 /// The last number that is linked to a number on the way up.
-pub(crate) fn reach(ring: &Ring<Told>, passed: Option<u64>, n: u64, here: Fact) -> u64
+pub(crate) fn reach(ring: &Ring<Arrival>, passed: Option<u64>, n: u64, here: Fact) -> u64
     requires here { fact_at passed ring.now.entries n ≡ Some here }
-    ensures reached { Reached (fact_at passed ring.now.entries) here.ts n result }
+    ensures reached { IsReach (fact_at passed ring.now.entries) here.ts n result }
 {
     let newest = ring.newest().unwrap_or(n);
     let mut last = n;

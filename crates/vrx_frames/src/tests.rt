@@ -2,7 +2,7 @@
 
 ghost use Rattle.std.specs.Prelude.{◌≡◌, ◌+◌, ◌==◌, if◌then◌else◌, slice_index, refl, length, None, Ok, IfSome};
 ghost use Rattle.std.proofs.Common.{rules};
-ghost use Rattle.vrx_codec.specs.Joining.{beginning, joined};
+ghost use Rattle.vrx_codec.specs.Joining.{beginning, join_from};
 ghost use Rattle.vrx_codec.specs.declared.part.Start.TheVariants.{Yes, ByNeighbour};
 ghost use Rattle.vrx_window.specs.Sound.{IsSound, SaysItsText};
 
@@ -22,7 +22,7 @@ struct Said;
 impl Codec for Said {
     ghost meaning = { record {
       read = λ payload. Ok (record { start = (if slice_index payload 0 == 1 then Yes else ByNeighbour); key = slice_index payload 0 == 1; layers = None; body = payload });
-      join = λ parts. joined (record {
+      join = λ parts. join_from (record {
         step = λ state part. Ok (record { unit = None; octets = state.octets + length part.body });
         end = λ state. Ok state.octets;
         adds = λ state part. part.body;

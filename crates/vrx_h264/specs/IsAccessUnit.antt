@@ -3,7 +3,7 @@
 use Rattle.std.specs.Prelude.{◌≡◌, ◌≢◌, ℕ, Bool, true, false, List, [], ◌∷◌, ◌++◌, map, ◌⊎◌}
 use Rattle.std.specs.List.{flat_map, AllByRecursion}
 use Rattle.vrx_h264.specs.Nal.{kind}
-use Rattle.vrx_h264.specs.Payload.{Fragment, begins, ends, first_octet, Piece, Whole, Cut, is_front}
+use Rattle.vrx_h264.specs.Payload.{Fragment, begins, ends, first_octet, Piece, Whole, Cut, begins_unit}
 
 -- a fragment of a unit of this type that doesn't begin it, and whether it ends it
 pub record IsLater (type : ℕ) (end : Bool) (f : Fragment) : Type 0 where
@@ -52,7 +52,7 @@ pub record LacksStart (carried : List Piece) : Type 0 where
 -- nothing comes, or what begins a unit
 abbrev pub NoLater : List Piece → Type 0
 NoLater [] = Unit {0}
-NoLater (piece ∷ behind) = is_front piece ≡ true
+NoLater (piece ∷ behind) = begins_unit piece ≡ true
 
 -- after whole units one is begun, and what comes then isn't a later fragment
 pub record LacksEnd (carried : List Piece) : Type 0 where

@@ -3,7 +3,7 @@ use Rattle.std.specs.Prelude.{◌≡◌, ◌≢◌, ℕ, ◌/◌, ◌%◌, ◌<�
 use Rattle.std.specs.List.{flat_map, AllByRecursion}
 use Rattle.vrx_h264.specs.declared.types.TheConstants.{LAST_UNIT, STAP_A, FU_A}
 use Rattle.vrx_h264.specs.Nal.{kind}
-use Rattle.vrx_h264.specs.Aggregate.{front_fault}
+use Rattle.vrx_h264.specs.Aggregate.{unit_fault}
 use Rattle.vrx_h264.specs.Payload.{Fragment, begins, ends, Piece, Whole, Cut}
 
 -- a type of a unit as such is 1 to 23 (RFC 6184 5.2, table 1)
@@ -25,14 +25,14 @@ abbrev pub IsSizedUnit : List ℕ → Type 0
 IsSizedUnit unit = IsUnit unit × (length unit < 65536)
 
 -- a unit after its size, the high octet first
-abbrev pub sized : List ℕ → List ℕ
-sized unit = (length unit / 256) ∷ (length unit % 256) ∷ unit
+abbrev pub with_size : List ℕ → List ℕ
+with_size unit = (length unit / 256) ∷ (length unit % 256) ∷ unit
 
 -- the payload is a STAP-A: an octet of type 24, and then one or more units, each after its size (RFC 6184 5.7.1)
 pub record IsAggregate (payload : List ℕ) (carried : List Piece) : Type 0 where
   pub head : ℕ
   pub units : List (List ℕ)
-  pub spelled : payload ≡ head ∷ flat_map sized units
+  pub spelled : payload ≡ head ∷ flat_map with_size units
   pub says : kind head ≡ STAP_A
   pub some : units ≢ []
   pub each : AllByRecursion IsSizedUnit units
@@ -54,6 +54,6 @@ IsPayload payload carried = IsSingle payload carried ⊎ IsAggregate payload car
 -- how the octets after an aggregate's first divide: into units, each after its size, and octets that begin with
 -- none
 pub record Divides (octets : List ℕ) (units : List (List ℕ)) (left : List ℕ) : Type 0 where
-  pub spelled : octets ≡ flat_map sized units ++ left
+  pub spelled : octets ≡ flat_map with_size units ++ left
   pub each : AllByRecursion IsSizedUnit units
-  pub stops : front_fault 0 left ≢ None
+  pub stops : unit_fault 0 left ≢ None

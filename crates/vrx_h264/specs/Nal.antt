@@ -6,8 +6,8 @@
 -- +-+-+-+-+-+-+-+-+
 use Rattle.std.specs.Prelude.{ℕ, ◌%◌, Bool, ◌&&◌, ◌==◌, nat_lt, nat_le, if◌then◌else◌, List, slice_index}
 use Rattle.vrx_h264.specs.declared.types.TheConstants.{LAST_UNIT, IDR, SEQUENCE, STAP_A, FU_A}
-use Rattle.vrx_h264.specs.declared.nal.Form.{Form}
-use Rattle.vrx_h264.specs.declared.nal.Form.TheVariants.{Single, Aggregate, Fragmented, Other}
+use Rattle.vrx_h264.specs.declared.nal.Structure.{Structure}
+use Rattle.vrx_h264.specs.declared.nal.Structure.TheVariants.{Single, Aggregate, Fragmented, Other}
 
 -- the type that an octet says
 abbrev pub kind : ℕ → ℕ
@@ -30,8 +30,8 @@ is_sequence kind = kind == SEQUENCE
 
 -- how a payload with this type in its first octet carries units (RFC 6184 5.2, table 1): one, several, or a
 -- fragment of one
-abbrev pub form : ℕ → Form
-form kind =
+abbrev pub structure_of : ℕ → Structure
+structure_of kind =
     if is_unit_kind kind then Single
     else if kind == STAP_A then Aggregate
     else if kind == FU_A then Fragmented

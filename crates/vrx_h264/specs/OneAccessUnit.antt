@@ -3,7 +3,7 @@ use Rattle.std.specs.Prelude.{◌≡◌, ◌↔◌, ℕ, ◌⊎◌, List, [], No
 use Rattle.std.specs.List.{flat_map}
 use Rattle.vrx_codec.specs.Part.{Part}
 use Rattle.vrx_h264.specs.Payload.{Piece}
-use Rattle.vrx_h264.specs.AccessUnit.{behind_code, no_start, no_end, mixed, units_from, carried, h264}
+use Rattle.vrx_h264.specs.AccessUnit.{after_code, no_start, no_end, mixed_unit, units_from, pieces_of, h264}
 use Rattle.vrx_h264.specs.IsAccessUnit.{AreUnits, LacksStart, LacksEnd, IsMixed}
 
 -- pieces join to units exactly if they carry these, one after another
@@ -19,7 +19,7 @@ abbrev pub TellsNoEnd : Type 0
 TellsNoEnd = (carried : List Piece) → (units_from None carried ≡ Err no_end) ↔ LacksEnd carried
 
 abbrev pub TellsMixed : Type 0
-TellsMixed = (carried : List Piece) → (units_from None carried ≡ Err mixed) ↔ IsMixed carried
+TellsMixed = (carried : List Piece) → (units_from None carried ≡ Err mixed_unit) ↔ IsMixed carried
 
 -- one of these holds always
 abbrev pub HasOutcome : Type 0
@@ -28,5 +28,5 @@ HasOutcome = (carried : List Piece) →
 
 -- parts whose pieces carry units join to these, each after its start code
 abbrev pub JoinsBytes : Type 0
-JoinsBytes = (parts : List Part) (units : List (List ℕ)) → AreUnits (carried parts) units →
-    h264.join parts ≡ Ok (flat_map behind_code units)
+JoinsBytes = (parts : List Part) (units : List (List ℕ)) → AreUnits (pieces_of parts) units →
+    h264.join parts ≡ Ok (flat_map after_code units)

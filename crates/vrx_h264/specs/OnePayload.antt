@@ -1,10 +1,10 @@
 -- What holds of payloads (RFC 6184 5.6 to 5.8), as statements on octets, each below 256.
 use Rattle.std.specs.Prelude.{◌≡◌, ◌≢◌, ◌↔◌, ℕ, ◌+◌, List, [], length, None, Ok, IfOk}
 use Rattle.std.specs.List.{flat_map}
-use Rattle.vrx_codec.specs.Joining.{AreOctets}
-use Rattle.vrx_h264.specs.Aggregate.{front_fault, units_of, aggregate_fault}
+use Rattle.vrx_num.specs.Octets.{AreOctets}
+use Rattle.vrx_h264.specs.Aggregate.{unit_fault, units_of, aggregate_fault}
 use Rattle.vrx_h264.specs.Payload.{Piece, pieces, fault, part_with, read_part}
-use Rattle.vrx_h264.specs.IsPayload.{IsPayload, sized, Divides}
+use Rattle.vrx_h264.specs.IsPayload.{IsPayload, with_size, Divides}
 
 -- nothing is wrong with octets, and they carry this, exactly if they are a payload of this
 abbrev pub CarriesSpelled : Type 0
@@ -33,4 +33,4 @@ DividesOnce = (octets left : List ℕ) (units : List (List ℕ)) → Divides oct
 -- if something is left, the fault is what is wrong with its front, told after the units
 abbrev pub TellsWhatIsLeft : Type 0
 TellsWhatIsLeft = (octets left : List ℕ) (units : List (List ℕ)) → Divides octets units left → left ≢ [] →
-    aggregate_fault octets ≡ front_fault (1 + length (flat_map sized units)) left
+    aggregate_fault octets ≡ unit_fault (1 + length (flat_map with_size units)) left

@@ -7,9 +7,9 @@ use Rattle.vrx_codec.specs.declared.part.Start.TheVariants.{Yes, ByNeighbour}
 use Rattle.vrx_codec.specs.declared.fault.PartFault.{PartFault}
 use Rattle.vrx_h264.specs.declared.bits.TheConstants.{BIT_S, BIT_E}
 use Rattle.vrx_h264.specs.declared.faults.TheConstants.{EMPTY, KIND, FU_SHORT, FU_BOTH}
-use Rattle.vrx_h264.specs.declared.nal.Form.{Form}
-use Rattle.vrx_h264.specs.declared.nal.Form.TheVariants.{Single, Aggregate, Fragmented, Other}
-use Rattle.vrx_h264.specs.Nal.{kind, unit_kind, is_unit_kind, is_idr, is_sequence, form}
+use Rattle.vrx_h264.specs.declared.nal.Structure.{Structure}
+use Rattle.vrx_h264.specs.declared.nal.Structure.TheVariants.{Single, Aggregate, Fragmented, Other}
+use Rattle.vrx_h264.specs.Nal.{kind, unit_kind, is_unit_kind, is_idr, is_sequence, structure_of}
 use Rattle.vrx_h264.specs.Aggregate.{units_of, aggregate_fault}
 
 -- A fragment FU-A of a unit (RFC 6184 5.8): its two octets, and octets of the unit, which begin after the unit's
@@ -47,9 +47,9 @@ piece_kind (Whole unit) = unit_kind unit
 piece_kind (Cut f) = kind f.header
 
 -- whether a unit begins there
-abbrev pub is_front : Piece → Bool
-is_front (Whole unit) = true
-is_front (Cut f) = begins f
+abbrev pub begins_unit : Piece → Bool
+begins_unit (Whole unit) = true
+begins_unit (Cut f) = begins f
 
 -- the fragment after an indicator
 abbrev pub cut_of : ℕ → List ℕ → List Piece
@@ -57,7 +57,7 @@ cut_of indicator [] = []
 cut_of indicator (header ∷ octets) = Cut (record { indicator = indicator; header = header; octets = octets }) ∷ []
 
 -- what a payload with this first octet and these after it carries
-abbrev pub pieces_in : Form → ℕ → List ℕ → List Piece
+abbrev pub pieces_in : Structure → ℕ → List ℕ → List Piece
 pieces_in Single head octets = Whole (head ∷ octets) ∷ []
 pieces_in Aggregate head octets = map Whole (units_of octets).units
 pieces_in Fragmented head octets = cut_of head octets
@@ -65,7 +65,7 @@ pieces_in Other head octets = []
 
 abbrev pub pieces : List ℕ → List Piece
 pieces [] = []
-pieces (head ∷ octets) = pieces_in (form (kind head)) head octets
+pieces (head ∷ octets) = pieces_in (structure_of (kind head)) head octets
 
 -- what is wrong with the octets after an indicator: there is no header, it says both S and E, or its type isn't that
 -- of a unit as such
@@ -77,7 +77,7 @@ cut_fault (header ∷ octets) =
     else Some (record { code = KIND; at = 1 })
 
 -- what is wrong with a payload, by its form: its first octet may say none
-abbrev pub fault_in : Form → List ℕ → Option PartFault
+abbrev pub fault_in : Structure → List ℕ → Option PartFault
 fault_in Single octets = None
 fault_in Aggregate octets = aggregate_fault octets
 fault_in Fragmented octets = cut_fault octets
@@ -86,12 +86,12 @@ fault_in Other octets = Some (record { code = KIND; at = 0 })
 -- what is wrong with a payload: it may be empty
 abbrev pub fault : List ℕ → Option PartFault
 fault [] = Some (record { code = EMPTY; at = 0 })
-fault (head ∷ octets) = fault_in (form (kind head)) octets
+fault (head ∷ octets) = fault_in (structure_of (kind head)) octets
 
 -- whether pieces begin with the beginning of a sequence parameter set
 abbrev pub begin_sequence : List Piece → Bool
 begin_sequence [] = false
-begin_sequence (piece ∷ later) = is_front piece && is_sequence (piece_kind piece)
+begin_sequence (piece ∷ later) = begins_unit piece && is_sequence (piece_kind piece)
 
 -- whether there is an IDR slice, or a fragment of one
 abbrev pub hold_idr : List Piece → Bool

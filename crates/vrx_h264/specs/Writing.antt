@@ -7,8 +7,8 @@ use Rattle.vrx_h264.specs.declared.bits.TheConstants.{BIT_F, BIT_S, BIT_E}
 use Rattle.vrx_h264.specs.declared.types.TheConstants.{STAP_A, FU_A}
 use Rattle.vrx_h264.specs.Nal.{kind}
 use Rattle.vrx_h264.specs.Payload.{Fragment, read_part}
-use Rattle.vrx_h264.specs.IsPayload.{IsUnit, IsSizedUnit, sized}
-use Rattle.vrx_h264.specs.AccessUnit.{behind_code, h264}
+use Rattle.vrx_h264.specs.IsPayload.{IsUnit, IsSizedUnit, with_size}
+use Rattle.vrx_h264.specs.AccessUnit.{after_code, h264}
 
 -- F, NRI and the type in an octet's place for them
 abbrev pub header_octet : Bool → ℕ → ℕ → ℕ
@@ -32,14 +32,15 @@ greatest_nri (unit ∷ units) = max (nri unit) (greatest_nri units)
 
 -- a STAP-A of units (RFC 6184 5.7.1)
 abbrev pub written_units : List (List ℕ) → List ℕ
-written_units units = header_octet (have_f units) (greatest_nri units) STAP_A ∷ flat_map sized units
+written_units units = header_octet (have_f units) (greatest_nri units) STAP_A ∷ flat_map with_size units
 
 -- The fragment of a unit from one of its octets on, of so many (RFC 6184 5.8). F and NRI are the unit's. It says S
 -- if it begins after the unit's first octet, and E if it ends the unit; R is 0.
 abbrev pub cut_at : List ℕ → ℕ → ℕ → Fragment
 cut_at unit at len = record {
   indicator = slice_index unit 0 / 32 * 32 + FU_A;
-  header = (if at == 1 then BIT_S else 0) + (if at + len == length unit then BIT_E else 0) + kind (slice_index unit 0);
+  header =
+      (if at == 1 then BIT_S else 0) + (if at + len == length unit then BIT_E else 0) + kind (slice_index unit 0);
   octets = take len (drop at unit);
 }
 
@@ -62,9 +63,9 @@ pub record JoinTo (payloads : List (List ℕ)) (bytes : List ℕ) : Type 0 where
 -- the unit after its start code
 abbrev pub FragmentsJoin : Type 0
 FragmentsJoin = (unit lens : List ℕ) → IsUnit unit → 2 ≤ length lens → AllByRecursion (λ len. 0 < len) lens →
-    1 + sum lens ≡ length unit → JoinTo (cuts unit 1 lens) (behind_code unit)
+    1 + sum lens ≡ length unit → JoinTo (cuts unit 1 lens) (after_code unit)
 
 -- the aggregate of units joins to the units, each after its start code
 abbrev pub AggregateJoins : Type 0
 AggregateJoins = (units : List (List ℕ)) → units ≢ [] → AllByRecursion IsSizedUnit units →
-    JoinTo (written_units units ∷ []) (flat_map behind_code units)
+    JoinTo (written_units units ∷ []) (flat_map after_code units)

@@ -2,7 +2,7 @@
 
 ghost use Rattle.std.specs.Prelude.{◌≡◌, ◌+◌, ◌*◌, ◌^◌, ◌<◌, ◌≤◌, length, map, IfSome};
 ghost use Rattle.std.specs.Option.{option_map};
-ghost use Rattle.vrx_h264.specs.Aggregate.{sized_fault as sized_fault_of, front_fault as front_fault_of, front as front_of, units_of, aggregate_fault as aggregate_fault_of};
+ghost use Rattle.vrx_h264.specs.Aggregate.{sized_fault as sized_fault_of, unit_fault as front_fault_of, first_unit as front_of, units_of, aggregate_fault as aggregate_fault_of};
 ghost use Rattle.vrx_h264.specs.Payload.{Whole, hold_idr, begin_sequence};
 
 use crate::faults::{KIND, STAP_PAST_END, STAP_ZERO};
@@ -36,7 +36,7 @@ fn sized_fault(at: usize, size: usize, rest: &[u8]) -> Option<PartFault>
 }
 
 /// What is wrong with the size at the front, which stands at `at`, and the unit after it.
-fn front_fault(at: usize, rest: &[u8]) -> Option<PartFault>
+fn unit_fault(at: usize, rest: &[u8]) -> Option<PartFault>
     requires { at + 2 < 2 ^ 64 }
     ensures { result ≡ front_fault_of at rest.now }
 {
@@ -52,7 +52,7 @@ fn front_fault(at: usize, rest: &[u8]) -> Option<PartFault>
 }
 
 /// The unit at the front, after its size, and the octets after it.
-pub(crate) fn front(rest: &[u8]) -> Option<(&[u8], &[u8])>
+pub(crate) fn first_unit(rest: &[u8]) -> Option<(&[u8], &[u8])>
     ensures front { option_map (λ x. (x.0.now, x.1.now)) result ≡ front_of rest.now }
     ensures shorter { IfSome result (λ x. length x.0.now + length x.1.now + 2 ≡ length rest.now) }
 {
@@ -72,7 +72,7 @@ fn left(octets: &[u8]) -> &[u8]
     ensures fits { length result.now ≤ length octets.now }
 {
     let mut rest = octets;
-    while let Some((_, behind)) = front(rest) {
+    while let Some((_, behind)) = first_unit(rest) {
         rest = behind;
     }
     rest
@@ -86,14 +86,14 @@ pub(crate) fn aggregate_fault(octets: &[u8]) -> Option<PartFault>
     if left.is_empty() && !octets.is_empty() {
         return None;
     }
-    front_fault(1 + octets.len() - left.len(), left)
+    unit_fault(1 + octets.len() - left.len(), left)
 }
 
 /// Whether the first of the units is a sequence parameter set.
 pub(crate) fn begins_sequence(octets: &[u8]) -> bool
     ensures { result ≡ begin_sequence (map Whole (units_of octets.now).units) }
 {
-    match front(octets) {
+    match first_unit(octets) {
         Some((unit, _)) => unit_kind(unit) == SEQUENCE,
         None => false,
     }
@@ -104,7 +104,7 @@ pub(crate) fn holds_idr(octets: &[u8]) -> bool
     ensures { result ≡ hold_idr (map Whole (units_of octets.now).units) }
 {
     let mut rest = octets;
-    while let Some((unit, behind)) = front(rest) {
+    while let Some((unit, behind)) = first_unit(rest) {
         if unit_kind(unit) == IDR {
             return true;
         }

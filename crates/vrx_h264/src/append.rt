@@ -4,13 +4,13 @@ ghost use Rattle.std.specs.Prelude.{◌≡◌, ℕ, ◌+◌, ◌*◌, ◌/◌, �
 ghost use Rattle.std.specs.List.{flat_map};
 ghost use Rattle.vrx_h264.specs.Aggregate.{units_of};
 ghost use Rattle.vrx_h264.specs.Payload.{Whole, pieces, cut_of};
-ghost use Rattle.vrx_h264.specs.AccessUnit.{behind_code};
-ghost use Rattle.vrx_h264.specs.Joining.{added_by, added as added_of};
+ghost use Rattle.vrx_h264.specs.AccessUnit.{after_code};
+ghost use Rattle.vrx_h264.specs.Joining.{piece_octets, added_octets as added_of};
 
-use crate::aggregate::front;
+use crate::aggregate::first_unit;
 use crate::bits::BIT_S;
 use crate::joining::{START_CODE, first_octet};
-use crate::nal::{Form, form_of, kind};
+use crate::nal::{Structure, kind, structure_of};
 use vrx_codec::bit;
 
 /// Adds octets, for which there is room.
@@ -28,7 +28,7 @@ fn append_octets(octets: &[u8], out: &mut Vec<u8>)
 /// Adds a unit after its start code.
 fn append_unit(unit: &[u8], out: &mut Vec<u8>)
     requires { vec_len out.old + 4 + length unit.now ≤ vec_capacity out.old }
-    ensures items { out.new.items ≡ out.old.items ++ behind_code unit.now }
+    ensures items { out.new.items ≡ out.old.items ++ after_code unit.now }
     ensures len { vec_len out.new ≡ vec_len out.old + 4 + length unit.now }
     ensures capacity { vec_capacity out.old ≤ vec_capacity out.new }
 {
@@ -38,14 +38,14 @@ fn append_unit(unit: &[u8], out: &mut Vec<u8>)
 
 /// Adds the units of an aggregate.
 fn append_units(octets: &[u8], out: &mut Vec<u8>)
-    requires { vec_len out.old + length (flat_map added_by (map Whole (units_of octets.now).units))
+    requires { vec_len out.old + length (flat_map piece_octets (map Whole (units_of octets.now).units))
         ≤ vec_capacity out.old }
     ensures items { out.new.items ≡ out.old.items
-        ++ flat_map added_by (map Whole (units_of octets.now).units) }
+        ++ flat_map piece_octets (map Whole (units_of octets.now).units) }
     ensures capacity { vec_capacity out.old ≤ vec_capacity out.new }
 {
     let mut rest = octets;
-    while let Some((unit, behind)) = front(rest) {
+    while let Some((unit, behind)) = first_unit(rest) {
         append_unit(unit, out);
         rest = behind;
     }
@@ -53,10 +53,10 @@ fn append_units(octets: &[u8], out: &mut Vec<u8>)
 
 /// Adds the octets of a fragment, after its indicator and header.
 fn append_cut(indicator: u8, octets: &[u8], out: &mut Vec<u8>)
-    requires { vec_len out.old + length (flat_map added_by (cut_of indicator octets.now))
+    requires { vec_len out.old + length (flat_map piece_octets (cut_of indicator octets.now))
         ≤ vec_capacity out.old }
     ensures items { out.new.items ≡ out.old.items
-        ++ flat_map added_by (cut_of indicator octets.now) }
+        ++ flat_map piece_octets (cut_of indicator octets.now) }
     ensures capacity { vec_capacity out.old ≤ vec_capacity out.new }
 {
     let [header, octets @ ..] = octets else {
@@ -78,10 +78,10 @@ pub(crate) fn append_payload(payload: &[u8], out: &mut Vec<u8>)
     let [head, octets @ ..] = payload else {
         return;
     };
-    match form_of(kind(*head)) {
-        Form::Single => append_unit(payload, out),
-        Form::Aggregate => append_units(octets, out),
-        Form::Fragmented => append_cut(*head, octets, out),
-        Form::Other => {}
+    match structure_of(kind(*head)) {
+        Structure::Single => append_unit(payload, out),
+        Structure::Aggregate => append_units(octets, out),
+        Structure::Fragmented => append_cut(*head, octets, out),
+        Structure::Other => {}
     }
 }

@@ -7,7 +7,7 @@ ghost use Rattle.vrx_h264.specs.Laws.{h264_within, h264_joins, h264_counted, h26
 
 use crate::append::append_payload;
 use crate::faults::FU_NO_END;
-use crate::joining::{added, begun_behind};
+use crate::joining::{added_len, begun_after};
 use crate::payload::part_of;
 use vrx_codec::{Codec, Join, JoinFault, Part, PartFault};
 
@@ -35,8 +35,8 @@ impl Codec for H264 {
     }
 
     fn step(state: Join, part: &Part<'_>) -> Result<Join, JoinFault> {
-        let octets = state.octets + added(part.body) as u32;
-        match begun_behind(state.unit, part.body) {
+        let octets = state.octets + added_len(part.body) as u32;
+        match begun_after(state.unit, part.body) {
             Ok(unit) => Ok(Join { unit, octets }),
             Err(fault) => Err(fault),
         }

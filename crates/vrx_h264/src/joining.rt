@@ -4,13 +4,13 @@ ghost use Rattle.std.specs.Prelude.{◌≡◌, ℕ, ◌+◌, ◌*◌, ◌/◌, �
 ghost use Rattle.std.specs.List.{flat_map};
 ghost use Rattle.vrx_h264.specs.Aggregate.{units_of};
 ghost use Rattle.vrx_h264.specs.Payload.{Whole, Cut, pieces, cut_of};
-ghost use Rattle.vrx_h264.specs.AccessUnit.{behind_code};
-ghost use Rattle.vrx_h264.specs.Joining.{begun_behind as begun_behind_of, begun_behind_all, added_by, added as added_of};
+ghost use Rattle.vrx_h264.specs.AccessUnit.{after_code};
+ghost use Rattle.vrx_h264.specs.Joining.{begun_after as begun_behind_of, begun_after_all, piece_octets, added_octets as added_of};
 
-use crate::aggregate::front;
+use crate::aggregate::first_unit;
 use crate::bits::{BIT_E, BIT_S};
 use crate::faults::{FU_MIXED, FU_NO_END, FU_NO_START};
-use crate::nal::{Form, form_of, kind};
+use crate::nal::{Structure, kind, structure_of};
 use vrx_codec::{JoinFault, bit};
 
 /// What stands before each unit.
@@ -24,7 +24,7 @@ pub(crate) fn first_octet(indicator: u8, header: u8) -> u8
 }
 
 /// The unit that is begun after a whole one: none.
-fn begun_behind_whole(begun: Option<u8>) -> Result<Option<u8>, JoinFault>
+fn begun_after_whole(begun: Option<u8>) -> Result<Option<u8>, JoinFault>
     ensures { (unit : List ℕ) → result ≡ begun_behind_of begun (Whole unit) }
 {
     match begun {
@@ -34,21 +34,17 @@ fn begun_behind_whole(begun: Option<u8>) -> Result<Option<u8>, JoinFault>
 }
 
 /// The unit that is begun after those of an aggregate.
-fn begun_behind_units(begun: Option<u8>, octets: &[u8]) -> Result<Option<u8>, JoinFault>
-    ensures { result ≡ begun_behind_all begun (map Whole (units_of octets.now).units) }
+fn begun_after_units(begun: Option<u8>, octets: &[u8]) -> Result<Option<u8>, JoinFault>
+    ensures { result ≡ begun_after_all begun (map Whole (units_of octets.now).units) }
 {
-    match front(octets) {
-        Some(_) => begun_behind_whole(begun),
+    match first_unit(octets) {
+        Some(_) => begun_after_whole(begun),
         None => Ok(begun),
     }
 }
 
 /// The unit that is begun after a fragment, by its indicator and header.
-fn begun_behind_header(
-    begun: Option<u8>,
-    indicator: u8,
-    header: u8,
-) -> Result<Option<u8>, JoinFault>
+fn begun_after_header(begun: Option<u8>, indicator: u8, header: u8) -> Result<Option<u8>, JoinFault>
     ensures { (octets : List ℕ) → result ≡ begun_behind_of begun
         (Cut (record { indicator = indicator; header = header; octets = octets })) }
 {
@@ -77,42 +73,38 @@ fn begun_behind_header(
 }
 
 /// The unit that is begun after a fragment.
-fn begun_behind_cut(
-    begun: Option<u8>,
-    indicator: u8,
-    octets: &[u8],
-) -> Result<Option<u8>, JoinFault>
-    ensures { result ≡ begun_behind_all begun (cut_of indicator octets.now) }
+fn begun_after_cut(begun: Option<u8>, indicator: u8, octets: &[u8]) -> Result<Option<u8>, JoinFault>
+    ensures { result ≡ begun_after_all begun (cut_of indicator octets.now) }
 {
     match octets {
-        [header, ..] => begun_behind_header(begun, indicator, *header),
+        [header, ..] => begun_after_header(begun, indicator, *header),
         [] => Ok(begun),
     }
 }
 
 /// The first octet of the unit that is begun after a payload, if one is, from that before it.
-pub(crate) fn begun_behind(begun: Option<u8>, payload: &[u8]) -> Result<Option<u8>, JoinFault>
-    ensures { result ≡ begun_behind_all begun (pieces payload.now) }
+pub(crate) fn begun_after(begun: Option<u8>, payload: &[u8]) -> Result<Option<u8>, JoinFault>
+    ensures { result ≡ begun_after_all begun (pieces payload.now) }
 {
     let [head, octets @ ..] = payload else {
         return Ok(begun);
     };
-    match form_of(kind(*head)) {
-        Form::Single => begun_behind_whole(begun),
-        Form::Aggregate => begun_behind_units(begun, octets),
-        Form::Fragmented => begun_behind_cut(begun, *head, octets),
-        Form::Other => Ok(begun),
+    match structure_of(kind(*head)) {
+        Structure::Single => begun_after_whole(begun),
+        Structure::Aggregate => begun_after_units(begun, octets),
+        Structure::Fragmented => begun_after_cut(begun, *head, octets),
+        Structure::Other => Ok(begun),
     }
 }
 
 /// How many octets the units of an aggregate add.
 fn added_units(octets: &[u8]) -> usize
     requires { length octets.now ≤ 2 ^ 28 }
-    ensures added { result ≡ length (flat_map added_by (map Whole (units_of octets.now).units)) }
+    ensures added { result ≡ length (flat_map piece_octets (map Whole (units_of octets.now).units)) }
 {
     let mut total = 0;
     let mut rest = octets;
-    while let Some((unit, behind)) = front(rest) {
+    while let Some((unit, behind)) = first_unit(rest) {
         total += START_CODE.len() + unit.len();
         rest = behind;
     }
@@ -122,7 +114,7 @@ fn added_units(octets: &[u8]) -> usize
 /// How many octets a fragment adds.
 fn added_cut(octets: &[u8]) -> usize
     requires { length octets.now ≤ 2 ^ 28 }
-    ensures added { (indicator : ℕ) → result ≡ length (flat_map added_by (cut_of indicator octets.now)) }
+    ensures added { (indicator : ℕ) → result ≡ length (flat_map piece_octets (cut_of indicator octets.now)) }
 {
     match octets {
         [header, octets @ ..] => {
@@ -137,17 +129,17 @@ fn added_cut(octets: &[u8]) -> usize
 }
 
 /// How many octets a payload adds to those joined.
-pub(crate) fn added(payload: &[u8]) -> usize
+pub(crate) fn added_len(payload: &[u8]) -> usize
     requires { length payload.now ≤ 2 ^ 28 }
     ensures { result ≡ length (added_of payload.now) }
 {
     let [head, octets @ ..] = payload else {
         return 0;
     };
-    match form_of(kind(*head)) {
-        Form::Single => START_CODE.len() + payload.len(),
-        Form::Aggregate => added_units(octets),
-        Form::Fragmented => added_cut(octets),
-        Form::Other => 0,
+    match structure_of(kind(*head)) {
+        Structure::Single => START_CODE.len() + payload.len(),
+        Structure::Aggregate => added_units(octets),
+        Structure::Fragmented => added_cut(octets),
+        Structure::Other => 0,
     }
 }

@@ -1,13 +1,13 @@
 //! The header of a NAL unit (RFC 6184 1.3), and what its type says of a payload (RFC 6184 5.2).
 
 ghost use Rattle.std.specs.Prelude.{◌≡◌};
-ghost use Rattle.vrx_h264.specs.Nal.{kind as kind_of, unit_kind as unit_kind_of, is_unit_kind as is_unit_kind_of, form};
+ghost use Rattle.vrx_h264.specs.Nal.{kind as kind_of, unit_kind as unit_kind_of, is_unit_kind as is_unit_kind_of, structure_of};
 
 use crate::types::{FU_A, LAST_UNIT, STAP_A};
 
 /// How a payload carries units.
 #[derive(Clone, Copy)]
-pub(crate) enum Form {
+pub(crate) enum Structure {
     /// It is one unit.
     Single,
     /// It holds several, each after its size (STAP-A).
@@ -43,15 +43,15 @@ pub(crate) fn is_unit_kind(kind: u8) -> bool
 }
 
 /// How a payload with this type carries units.
-pub(crate) fn form_of(kind: u8) -> Form
-    ensures { result ≡ form kind }
+pub(crate) fn structure_of(kind: u8) -> Structure
+    ensures { result ≡ structure_of kind }
 {
     if is_unit_kind(kind) {
-        return Form::Single;
+        return Structure::Single;
     }
     match kind {
-        STAP_A => Form::Aggregate,
-        FU_A => Form::Fragmented,
-        _ => Form::Other,
+        STAP_A => Structure::Aggregate,
+        FU_A => Structure::Fragmented,
+        _ => Structure::Other,
     }
 }

@@ -7,7 +7,7 @@ ghost use Rattle.vrx_h264.specs.Payload.{pieces, cut_fault as cut_fault_of, faul
 use crate::aggregate::{self, aggregate_fault, holds_idr};
 use crate::bits::{BIT_E, BIT_S};
 use crate::faults::{EMPTY, FU_BOTH, FU_SHORT, KIND};
-use crate::nal::{Form, form_of, is_unit_kind, kind, unit_kind};
+use crate::nal::{Structure, is_unit_kind, kind, structure_of, unit_kind};
 use crate::types::{IDR, SEQUENCE};
 use vrx_codec::{Part, PartFault, Start, bit};
 
@@ -40,11 +40,11 @@ fn fault(payload: &[u8]) -> Option<PartFault>
     let [head, rest @ ..] = payload else {
         return Some(PartFault { code: EMPTY, at: 0 });
     };
-    match form_of(kind(*head)) {
-        Form::Single => None,
-        Form::Aggregate => aggregate_fault(rest),
-        Form::Fragmented => cut_fault(rest),
-        Form::Other => Some(PartFault { code: KIND, at: 0 }),
+    match structure_of(kind(*head)) {
+        Structure::Single => None,
+        Structure::Aggregate => aggregate_fault(rest),
+        Structure::Fragmented => cut_fault(rest),
+        Structure::Other => Some(PartFault { code: KIND, at: 0 }),
     }
 }
 
@@ -55,14 +55,14 @@ fn begins_sequence(payload: &[u8]) -> bool
     let [head, rest @ ..] = payload else {
         return false;
     };
-    match form_of(kind(*head)) {
-        Form::Single => kind(*head) == SEQUENCE,
-        Form::Aggregate => aggregate::begins_sequence(rest),
-        Form::Fragmented => match rest {
+    match structure_of(kind(*head)) {
+        Structure::Single => kind(*head) == SEQUENCE,
+        Structure::Aggregate => aggregate::begins_sequence(rest),
+        Structure::Fragmented => match rest {
             [header, ..] => bit(*header, BIT_S) && kind(*header) == SEQUENCE,
             [] => false,
         },
-        Form::Other => false,
+        Structure::Other => false,
     }
 }
 
@@ -73,11 +73,11 @@ fn has_idr(payload: &[u8]) -> bool
     let [head, rest @ ..] = payload else {
         return false;
     };
-    match form_of(kind(*head)) {
-        Form::Single => kind(*head) == IDR,
-        Form::Aggregate => holds_idr(rest),
-        Form::Fragmented => unit_kind(rest) == IDR,
-        Form::Other => false,
+    match structure_of(kind(*head)) {
+        Structure::Single => kind(*head) == IDR,
+        Structure::Aggregate => holds_idr(rest),
+        Structure::Fragmented => unit_kind(rest) == IDR,
+        Structure::Other => false,
     }
 }
 

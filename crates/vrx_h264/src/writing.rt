@@ -4,7 +4,7 @@ ghost use Rattle.std.specs.Prelude.{◌≡◌, ◌≢◌, ◌↔◌, ℕ, ◌+�
 ghost use Rattle.std.specs.List.{flat_map, list_any, Any, AllByRecursion};
 ghost use Rattle.vrx_h264.specs.Nal.{kind as kind_of};
 ghost use Rattle.vrx_h264.specs.Payload.{Whole, Cut, part_with, read_part};
-ghost use Rattle.vrx_h264.specs.IsPayload.{IsUnit, sized, IsPayload};
+ghost use Rattle.vrx_h264.specs.IsPayload.{IsUnit, with_size, IsPayload};
 ghost use Rattle.vrx_h264.specs.Writing.{has_f as has_f_of, nri as nri_of, have_f as have_f_of, greatest_nri as greatest_nri_of, written_units, cut_at, written_cut};
 
 use crate::bits::{BIT_E, BIT_F, BIT_S};
@@ -78,7 +78,7 @@ fn greatest_nri(units: &[Unit]) -> u8
 /// Adds a unit after its size.
 fn push_sized(out: &mut Vec<u8>, unit: &[u8]) -> Result<(), NoMemory>
     requires { length unit.now < 65536 }
-    ensures { OnOk result (out.new.items ≡ out.old.items ++ sized unit.now) }
+    ensures { OnOk result (out.new.items ≡ out.old.items ++ with_size unit.now) }
 {
     out.push((unit.len() / 256) as u8)?;
     out.push((unit.len() % 256) as u8)?;

@@ -4,4 +4,5 @@ use Rattle.vrx_io.specs.Faults.{Rose}
 
 -- a count that rose after a stretch in which it didn't fall has risen since the stretch began
 pub rose_before : (start before after : ℕ) → start ≤ before → Rose before after → Rose start after
-rose_before start before after not_fallen rose = elim rose [ inl higher ↦ inl (omega arith) | inr greatest ↦ inr greatest ]
+rose_before start before after not_fallen rose =
+    elim rose [ inl higher ↦ inl (omega arith) | inr greatest ↦ inr greatest ]

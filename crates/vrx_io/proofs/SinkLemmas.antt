@@ -4,30 +4,40 @@ use Rattle.std.specs.declared.option.Option.{Option}
 use Rattle.std.specs.declared.option.Option.TheVariants.{None, Some}
 use Rattle.std.proofs.Math.Seq.{take-add, take-append-add}
 use Rattle.std.proofs.lemmas.List.{take-append-le, length-append}
-use Rattle.vrx_io.specs.Sink.{extended, TakesPart}
+use Rattle.vrx_io.specs.Sink.{with_more, TakesShortPrefix}
 
 -- two texts taken one after the other
-pub extended_twice : (taken : Option (List ℕ)) (text more : List ℕ) → extended (extended taken text) more ≡ extended taken (text ++ more)
+pub extended_twice : (taken : Option (List ℕ)) (text more : List ℕ) →
+    with_more (with_more taken text) more ≡ with_more taken (text ++ more)
 extended_twice None text more = refl
 extended_twice (Some bytes) text more = ap Some (append_assoc bytes text more)
 
 -- the first m bytes of a text and then the first n of what is left of it
-pub extended_by_more : (before between after : Option (List ℕ)) (text rest : List ℕ) (m n : ℕ) → between ≡ extended before (take m text) → rest ≡ drop m text → after ≡ extended between (take n rest) → after ≡ extended before (take (m + n) text)
+pub extended_by_more : (before between after : Option (List ℕ)) (text rest : List ℕ) (m n : ℕ) →
+    between ≡ with_more before (take m text) → rest ≡ drop m text → after ≡ with_more between (take n rest) →
+    after ≡ with_more before (take (m + n) text)
 extended_by_more before between after text rest m n first left more =
-    more ∙ ap (λ taken. extended taken (take n rest)) first ∙ extended_twice before (take m text) (take n rest) ∙ ap (λ part. extended before (take m text ++ take n part)) left ∙ ap (extended before) (sym (take-add m n text))
+    more ∙ ap (λ taken. with_more taken (take n rest)) first ∙ extended_twice before (take m text) (take n rest)
+    ∙ ap (λ part. with_more before (take m text ++ take n part)) left
+    ∙ ap (with_more before) (sym (take-add m n text))
 
 -- a part of a text is a part of a longer text
-pub takes_part_longer : (before after : Option (List ℕ)) (text more : List ℕ) → TakesPart before after text → TakesPart before after (text ++ more)
-takes_part_longer before after text more part = record {
+pub takes_short_prefix_longer : (before after : Option (List ℕ)) (text more : List ℕ) →
+    TakesShortPrefix before after text → TakesShortPrefix before after (text ++ more)
+takes_short_prefix_longer before after text more part = record {
   count = part.count;
   short = omega (arith, part.short, length-append text more);
-  part = part.part ∙ ap (extended before) (sym (take-append-le part.count text more (omega (arith, part.short))));
+  part = part.part ∙ ap (with_more before) (sym (take-append-le part.count text more (omega (arith, part.short))));
 }
 
 -- a whole text and then a part of more is a part of both
-pub takes_part_later : (before between after : Option (List ℕ)) (text more : List ℕ) → between ≡ extended before text → TakesPart between after more → TakesPart before after (text ++ more)
-takes_part_later before between after text more whole part = record {
+pub takes_short_prefix_later : (before between after : Option (List ℕ)) (text more : List ℕ) →
+    between ≡ with_more before text → TakesShortPrefix between after more →
+    TakesShortPrefix before after (text ++ more)
+takes_short_prefix_later before between after text more whole part = record {
   count = length text + part.count;
   short = omega (arith, part.short, length-append text more);
-  part = part.part ∙ ap (λ taken. extended taken (take part.count more)) whole ∙ extended_twice before text (take part.count more) ∙ ap (extended before) (sym (take-append-add text more part.count));
+  part = part.part ∙ ap (λ taken. with_more taken (take part.count more)) whole
+      ∙ extended_twice before text (take part.count more)
+      ∙ ap (with_more before) (sym (take-append-add text more part.count));
 }

@@ -3,14 +3,14 @@ use Rattle.std.specs.Prelude.{◌≡◌, ℕ, ◌≤◌, List, [], length, take,
 use Rattle.std.specs.declared.option.Option.{Option}
 
 -- of these bytes the first n are at the front of the buffer, and the others are left
-pub record TakesFront (bytes : List ℕ) (left : Option (List ℕ)) (n : ℕ) (buf : List ℕ) : Type 0 where
+pub record TakesPrefix (bytes : List ℕ) (left : Option (List ℕ)) (n : ℕ) (buf : List ℕ) : Type 0 where
   pub enough : n ≤ length bytes
   pub rest : left ≡ Some (drop n bytes)
   pub given : take n buf ≡ take n bytes
 
 -- a read gave the first n of the bytes that were left, if the source tells them
 abbrev pub Gives : Option (List ℕ) → Option (List ℕ) → ℕ → List ℕ → Type 0
-Gives before after n buf = IfSome before (λ bytes. TakesFront bytes after n buf)
+Gives before after n buf = IfSome before (λ bytes. TakesPrefix bytes after n buf)
 
 -- no byte is left, if the source tells them
 abbrev pub IsSpent : Option (List ℕ) → Type 0

@@ -1,7 +1,7 @@
 //! The one error of this crate, and the count that each error raises.
 
 ghost use Rattle.std.specs.Prelude.{◌≡◌};
-ghost use Rattle.vrx_io.specs.Faults.{raised};
+ghost use Rattle.vrx_io.specs.Faults.{next_count};
 
 use thiserror::Error;
 
@@ -12,7 +12,7 @@ pub struct Failed;
 
 /// The count after one more, which stops at the greatest number.
 pub(crate) fn count_up(count: u64) -> u64
-    ensures { result ≡ raised count }
+    ensures { result ≡ next_count count }
 {
     count.saturating_add(1)
 }

@@ -1,7 +1,7 @@
 //! A source and a sink in memory, which fail at chosen calls.
 
 ghost use Rattle.std.specs.Prelude.{◌≡◌, ◌<◌, ◌≤◌, ◌↔◌, [], Some, Ok, length, vec_capacity, take, drop, min, ◌++◌, IsOk, IsErr, IfOk, OnErr};
-ghost use Rattle.vrx_io.specs.Faults.{raised};
+ghost use Rattle.vrx_io.specs.Faults.{next_count};
 ghost use Rattle.vrx_io.specs.Memory.{SourceState, fresh_source, ReadFails, read_len, after_read, after_failed_read};
 ghost use Rattle.vrx_io.specs.Memory.{SinkState, fresh_sink, WriteFails, write_len, after_write, after_failed_write};
 
@@ -60,7 +60,7 @@ impl Source for MemSource {
 
     ghost faults = { λ s. s.faults };
 
-    ghost is_read = { λ old octets new. new.calls ≡ raised old.calls };
+    ghost is_read = { λ old octets new. new.calls ≡ next_count old.calls };
 
     fn read(&mut self, buf: &mut [u8]) -> Result<usize, Failed>
         ensures fails { IsErr result ↔ ReadFails self.old }

@@ -3,7 +3,7 @@
 ghost use Rattle.std.specs.Prelude.{◌≡◌, ℕ, ◌<◌, ◌≤◌, List, length, take, OnOk, OnErr, IfOk};
 ghost use Rattle.std.specs.declared.option.Option.{Option};
 ghost use Rattle.vrx_io.specs.Faults.{Rose};
-ghost use Rattle.vrx_io.specs.Sink.{extended, TakesPart};
+ghost use Rattle.vrx_io.specs.Sink.{with_more, TakesShortPrefix};
 
 use crate::failed::Failed;
 
@@ -21,7 +21,7 @@ pub trait Sink {
         ensures some { 0 < length piece.now → IfOk result (λ n. 0 < n) }
         ensures count { IfOk result (λ n. n ≤ length piece.now) }
         ensures takes { IfOk result (λ n.
-            taken self.new ≡ extended (taken self.old) (take n piece.now)) }
+            taken self.new ≡ with_more (taken self.old) (take n piece.now)) }
         ensures failed { OnErr result (taken self.new ≡ taken self.old) }
 
         // A write that fails is counted, and no other.
@@ -34,8 +34,8 @@ pub trait Sink {
 /// part of the text from its front, and never all of it.
 #[tactic(auto, using(crate::proofs::SinkLemmas::extended_by_more))]
 pub fn put<K: Sink>(sink: &mut K, text: &[u8]) -> Result<(), Failed>
-    ensures ok { OnOk result (K.taken sink.new ≡ extended (K.taken sink.old) text.now) }
-    ensures err { OnErr result (TakesPart (K.taken sink.old) (K.taken sink.new) text.now) }
+    ensures ok { OnOk result (K.taken sink.new ≡ with_more (K.taken sink.old) text.now) }
+    ensures err { OnErr result (TakesShortPrefix (K.taken sink.old) (K.taken sink.new) text.now) }
     ensures later { K.faults sink.old ≤ K.faults sink.new }
     ensures uncounted { OnOk result (K.faults sink.new ≡ K.faults sink.old) }
     ensures cause { OnErr result (Rose (K.faults sink.old) (K.faults sink.new)) }

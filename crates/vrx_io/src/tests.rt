@@ -1,7 +1,7 @@
 // What no clause says: that calls succeed with ample memory, and each adapter at a concrete type.
 ghost use Rattle.std.specs.Prelude.{◌≡◌, [], ◌∷◌, ◌++◌, take, IfOk, IfSome, OnOk, OnErr};
 ghost use Rattle.vrx_io.specs.Faults.{Rose};
-ghost use Rattle.vrx_io.specs.Sink.{extended, TakesPart};
+ghost use Rattle.vrx_io.specs.Sink.{with_more, TakesShortPrefix};
 
 use crate::{
     Failed, MemSink, MemSource, Sink, Source, StdSink, StdSource, SureSink, SureSource, put,
@@ -136,12 +136,12 @@ fn a_reader_and_a_writer_of_std_are_passed_on(rt: HostRuntime) -> Result<(), Fai
 }
 
 // A caller of `put`, which writes a text and then the end of its line.
-#[tactic(auto, using(crate::proofs::SinkLemmas::extended_twice, crate::proofs::SinkLemmas::takes_part_longer, crate::proofs::SinkLemmas::takes_part_later, crate::proofs::FaultsLemmas::rose_before))]
+#[tactic(auto, using(crate::proofs::SinkLemmas::extended_twice, crate::proofs::SinkLemmas::takes_short_prefix_longer, crate::proofs::SinkLemmas::takes_short_prefix_later, crate::proofs::FaultsLemmas::rose_before))]
 fn put_line<K: Sink>(sink: &mut K, text: &[u8]) -> Result<(), Failed>
     ensures ok { OnOk result (
-        K.taken sink.new ≡ extended (K.taken sink.old) (text.now ++ 10 ∷ [])) }
+        K.taken sink.new ≡ with_more (K.taken sink.old) (text.now ++ 10 ∷ [])) }
     ensures err { OnErr result (
-        TakesPart (K.taken sink.old) (K.taken sink.new) (text.now ++ 10 ∷ [])) }
+        TakesShortPrefix (K.taken sink.old) (K.taken sink.new) (text.now ++ 10 ∷ [])) }
     ensures cause { OnErr result (Rose (K.faults sink.old) (K.faults sink.new)) }
 {
     put(sink, text)?;
@@ -151,7 +151,7 @@ fn put_line<K: Sink>(sink: &mut K, text: &[u8]) -> Result<(), Failed>
 // A caller of both traits, which passes on what one read gives.
 fn copy_some<S: Source, K: Sink>(source: &mut S, sink: &mut K) -> Result<usize, Failed>
     ensures copied { IfOk result (λ n. IfSome (S.left source.old) (λ bytes.
-        K.taken sink.new ≡ extended (K.taken sink.old) (take n bytes))) }
+        K.taken sink.new ≡ with_more (K.taken sink.old) (take n bytes))) }
 {
     let mut buf = [0; 4];
     let n = source.read(&mut buf)?;

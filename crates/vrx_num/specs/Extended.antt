@@ -17,13 +17,14 @@ is_nearer_than_half newest n = nat_lt n (newest + HALF_SPACE) && nat_lt newest (
 -- Before the cycle 0 there is none.
 abbrev pub numbers_around : ℕ → ℕ → List ℕ
 numbers_around zero wire = wire ∷ (65536 + wire) ∷ []
-numbers_around (suc before) wire = (before * 65536 + wire) ∷ ((before + 1) * 65536 + wire) ∷ ((before + 2) * 65536 + wire) ∷ []
+numbers_around (suc before) wire =
+    (before * 65536 + wire) ∷ ((before + 1) * 65536 + wire) ∷ ((before + 2) * 65536 + wire) ∷ []
 
 -- Before the first packet, the number in the cycle 1, so that packets before it have numbers too.
 -- After it, the number around the newest that is nearer than half of the space to it.
-abbrev pub extended : Option ℕ → ℕ → Option ℕ
-extended None wire = Some (wire + 65536)
-extended (Some newest) wire = find (is_nearer_than_half newest) (numbers_around (newest / 65536) wire)
+abbrev pub extended_number : Option ℕ → ℕ → Option ℕ
+extended_number None wire = Some (wire + 65536)
+extended_number (Some newest) wire = find (is_nearer_than_half newest) (numbers_around (newest / 65536) wire)
 
 -- there is a newest number, and the wire number is just half of the space away from it
 abbrev pub IsHalfAway : Option ℕ → ℕ → Type 0
@@ -47,8 +48,10 @@ MeansOne = (newest wire n m : ℕ) → Extends newest wire n → Extends newest 
 
 -- beside a newest number, extending a wire number gives just the number that it means
 abbrev pub GivesMeant : Type 0
-GivesMeant = (newest wire n : ℕ) → HALF_SPACE ≤ newest → wire < 65536 → (extended (Some newest) wire ≡ Some n) ↔ Extends newest wire n
+GivesMeant = (newest wire n : ℕ) → HALF_SPACE ≤ newest → wire < 65536 →
+    (extended_number (Some newest) wire ≡ Some n) ↔ Extends newest wire n
 
 -- and gives none just half of the space away
 abbrev pub GivesNoneHalfAway : Type 0
-GivesNoneHalfAway = (newest wire : ℕ) → HALF_SPACE ≤ newest → wire < 65536 → (extended (Some newest) wire ≡ None) ↔ IsHalfAway (Some newest) wire
+GivesNoneHalfAway = (newest wire : ℕ) → HALF_SPACE ≤ newest → wire < 65536 →
+    (extended_number (Some newest) wire ≡ None) ↔ IsHalfAway (Some newest) wire

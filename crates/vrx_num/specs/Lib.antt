@@ -1,1 +1,4 @@
 pub mod Extended
+pub mod Octets
+pub mod OptionChain
+pub mod ResultChain

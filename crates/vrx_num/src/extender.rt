@@ -1,7 +1,7 @@
 //! The greatest number taken so far, and what a wire number means beside it.
 
 ghost use Rattle.std.specs.Prelude.{◌≡◌, ℕ, ◌+◌, ◌^◌, ◌≤◌, ◌↔◌, Option, None, MatchOption, IfSome, IsNone};
-ghost use Rattle.vrx_num.specs.Extended.{Extends, IsHalfAway, IsNewest, extended, greater};
+ghost use Rattle.vrx_num.specs.Extended.{Extends, IsHalfAway, IsNewest, extended_number, greater};
 
 use crate::limits::HALF_SPACE;
 use std::marker::Model;
@@ -48,7 +48,7 @@ impl Extender {
     /// Before the first, it is the one in the cycle 1; after that, the one that is nearer than half of
     /// the space to the newest. `None` says that it is just half of the space away.
     pub fn extend(&self, wire: u16) -> Option<u64>
-        ensures value { result ≡ extended self.now wire }
+        ensures value { result ≡ extended_number self.now wire }
         ensures number { IfSome result (λ n.
             MatchOption self.now (n ≡ wire + 65536) (λ newest. Extends newest wire n)) }
         ensures none { IsNone result ↔ IsHalfAway self.now wire }

@@ -6,7 +6,8 @@
 //!
 //! [`Numbers`] is a list of such numbers, and [`NoMemory`] the error of what fails only for want of memory.
 //!
-//! [`limits`] names the receiver's limits, each once for all crates.
+//! [`limits`] names the receiver's limits, each once for all crates, and [`slices`] has the front of some octets
+//! and what is after it.
 #![tactic(auto)]
 
 mod extender;
@@ -14,6 +15,7 @@ mod laws;
 pub mod limits;
 mod no_memory;
 mod numbers;
+pub mod slices;
 
 pub use extender::Extender;
 pub use laws::extended_is_near;

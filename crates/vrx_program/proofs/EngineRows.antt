@@ -21,8 +21,11 @@ abbrev keyframe : List ℕ
 keyframe = 128 ∷ 224 ∷ 0 ∷ 1 ∷ 0 ∷ 0 ∷ 0 ∷ 0 ∷ 0 ∷ 0 ∷ 0 ∷ 10 ∷ 16 ∷ 0 ∷ 170 ∷ []
 
 -- a keyframe comes out as a frame, once
-pub one_keyframe : replies settings vp8 [] (Datagram 0 keyframe ∷ Datagram 0 keyframe ∷ Pull 1 ∷ Pull 2 ∷ Datagram 0 keyframe ∷ [])
-    ≡ answered (Media 65537) ∷ answered (Dropped Repeat) ∷ ToPull (Frame (record { first = 65537; last = 65537; ts = 0; key = true; bytes = 0 ∷ 170 ∷ [] })) ∷ ToPull NotReady ∷ answered (Dropped Repeat) ∷ []
+pub one_keyframe : replies settings vp8 []
+    (Datagram 0 keyframe ∷ Datagram 0 keyframe ∷ Pull 1 ∷ Pull 2 ∷ Datagram 0 keyframe ∷ [])
+    ≡ answered (Media 65537) ∷ answered (Dropped Repeat) ∷ ToPull
+    (Frame (record { first = 65537; last = 65537; ts = 0; key = true; bytes = 0 ∷ 170 ∷ [] })) ∷ ToPull NotReady
+    ∷ answered (Dropped Repeat) ∷ []
 unfolding replies reply snapshots
 one_keyframe = refl
 
@@ -38,7 +41,9 @@ pull_alone = refl
 
 -- a tick between them changes nothing of what a pull gives
 pub with_ticks : replies settings vp8 [] (Tick 0 ∷ Datagram 0 keyframe ∷ Tick 5 ∷ Pull 1 ∷ Tick 2 ∷ [])
-    ≡ ToTick no_feedback ∷ answered (Media 65537) ∷ ToTick no_feedback ∷ ToPull (Frame (record { first = 65537; last = 65537; ts = 0; key = true; bytes = 0 ∷ 170 ∷ [] })) ∷ ToTick no_feedback ∷ []
+    ≡ ToTick no_feedback ∷ answered (Media 65537) ∷ ToTick no_feedback ∷ ToPull
+    (Frame (record { first = 65537; last = 65537; ts = 0; key = true; bytes = 0 ∷ 170 ∷ [] })) ∷ ToTick no_feedback
+    ∷ []
 unfolding replies reply snapshots
 with_ticks = refl
 
@@ -47,13 +52,15 @@ abbrev numbered : ℕ → ℕ → List ℕ
 numbered high low = 128 ∷ 224 ∷ high ∷ low ∷ 0 ∷ 0 ∷ 0 ∷ 0 ∷ 0 ∷ 0 ∷ 0 ∷ 10 ∷ 16 ∷ 0 ∷ 170 ∷ []
 
 -- a packet 32,768 ahead of the newest has no number, and one 32,767 ahead has
-pub too_far : replies settings vp8 [] (Datagram 0 (numbered 0 1) ∷ Datagram 0 (numbered 128 1) ∷ Datagram 0 (numbered 128 0) ∷ [])
+pub too_far : replies settings vp8 []
+    (Datagram 0 (numbered 0 1) ∷ Datagram 0 (numbered 128 1) ∷ Datagram 0 (numbered 128 0) ∷ [])
     ≡ answered (Media 65537) ∷ answered (Dropped TooFar) ∷ answered (Media 98304) ∷ []
 unfolding replies reply snapshots
 too_far = refl
 
 -- a packet 2,048 below the newest is too old, and one 2,047 below isn't
-pub too_old : replies settings vp8 [] (Datagram 0 (numbered 8 1) ∷ Datagram 0 (numbered 0 1) ∷ Datagram 0 (numbered 0 2) ∷ [])
+pub too_old : replies settings vp8 []
+    (Datagram 0 (numbered 8 1) ∷ Datagram 0 (numbered 0 1) ∷ Datagram 0 (numbered 0 2) ∷ [])
     ≡ answered (Media 67585) ∷ answered (Dropped TooOld) ∷ answered (Media 65538) ∷ []
 unfolding replies reply snapshots
 too_old = refl
@@ -64,8 +71,12 @@ carrying payload = 128 ∷ 96 ∷ 0 ∷ 1 ∷ 0 ∷ 0 ∷ 0 ∷ 0 ∷ 0 ∷ 0 �
 
 -- 80: the descriptor runs past the end; 10: no body follows it; a part with layers; bit X, and no layers; no payload,
 -- under the same number
-pub payloads : replies settings vp8 [] (Datagram 0 (carrying (128 ∷ [])) ∷ Datagram 0 (carrying (16 ∷ [])) ∷ Datagram 0 (carrying (144 ∷ 224 ∷ 128 ∷ 1 ∷ 5 ∷ 0 ∷ 0 ∷ 170 ∷ [])) ∷ Datagram 0 (carrying (144 ∷ 0 ∷ 0 ∷ 170 ∷ [])) ∷ Datagram 0 (carrying []) ∷ [])
-    ≡ answered (Dropped (BadPart 1)) ∷ answered (Dropped (BadPart 2)) ∷ answered (Dropped Form) ∷ answered (Media 65537) ∷ answered (Dropped Repeat) ∷ []
+pub payloads : replies settings vp8 []
+    (Datagram 0 (carrying (128 ∷ [])) ∷ Datagram 0 (carrying (16 ∷ [])) ∷ Datagram 0
+    (carrying (144 ∷ 224 ∷ 128 ∷ 1 ∷ 5 ∷ 0 ∷ 0 ∷ 170 ∷ [])) ∷ Datagram 0 (carrying (144 ∷ 0 ∷ 0 ∷ 170 ∷ []))
+    ∷ Datagram 0 (carrying []) ∷ [])
+    ≡ answered (Dropped (BadPart 1)) ∷ answered (Dropped (BadPart 2)) ∷ answered (Dropped Form) ∷ answered
+    (Media 65537) ∷ answered (Dropped Repeat) ∷ []
 unfolding replies reply snapshots
 payloads = refl
 
@@ -76,8 +87,12 @@ padding_only = 160 ∷ 96 ∷ 0 ∷ 2 ∷ 0 ∷ 0 ∷ 0 ∷ 0 ∷ 0 ∷ 0 ∷ 0 
 abbrev delta : List ℕ
 delta = 128 ∷ 224 ∷ 0 ∷ 3 ∷ 0 ∷ 0 ∷ 11 ∷ 184 ∷ 0 ∷ 0 ∷ 0 ∷ 10 ∷ 16 ∷ 1 ∷ 187 ∷ []
 
-pub over_empty : replies settings vp8 [] (Datagram 0 keyframe ∷ Pull 1 ∷ Datagram 33 delta ∷ Pull 34 ∷ Datagram 35 padding_only ∷ Pull 36 ∷ [])
-    ≡ answered (Media 65537) ∷ ToPull (Frame (record { first = 65537; last = 65537; ts = 0; key = true; bytes = 0 ∷ 170 ∷ [] })) ∷ answered (Media 65539) ∷ ToPull NotReady
-    ∷ answered (Empty 65538) ∷ ToPull (Frame (record { first = 65539; last = 65539; ts = 3000; key = false; bytes = 1 ∷ 187 ∷ [] })) ∷ []
+pub over_empty : replies settings vp8 []
+    (Datagram 0 keyframe ∷ Pull 1 ∷ Datagram 33 delta ∷ Pull 34 ∷ Datagram 35 padding_only ∷ Pull 36 ∷ [])
+    ≡ answered (Media 65537) ∷ ToPull
+    (Frame (record { first = 65537; last = 65537; ts = 0; key = true; bytes = 0 ∷ 170 ∷ [] })) ∷ answered
+    (Media 65539) ∷ ToPull NotReady
+    ∷ answered (Empty 65538) ∷ ToPull
+    (Frame (record { first = 65539; last = 65539; ts = 3000; key = false; bytes = 1 ∷ 187 ∷ [] })) ∷ []
 unfolding replies reply snapshots
 over_empty = refl

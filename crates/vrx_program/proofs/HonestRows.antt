@@ -4,15 +4,15 @@ use Rattle.std.specs.Prelude.{nat_lt}
 use Rattle.std.specs.List.{AllByRecursion, list_all}
 use Rattle.std.proofs.lemmas.Bool.{and_parts, ltb-true}
 use Rattle.std.proofs.lemmas.List.Elements.{All-nil, All-from_recursion}
-use Rattle.vrx_rtp.specs.Packet.{AreOctets}
+use Rattle.vrx_num.specs.Octets.{AreOctets}
 use Rattle.vrx_core.specs.honest.WireForm.{IsPadded, IsEmptyPacket}
 use Rattle.vrx_vp8.specs.Descriptor.{vp8}
 use Rattle.vrx_core.specs.machine.Machine.{Reply, no_feedback, ToDatagram, ToTick, ToPull, replies, reply, snapshots}
 use Rattle.vrx_core.specs.honest.Sender.{SentFrame, SentPacket, Media, Empty, Sender}
 use Rattle.vrx_codec.specs.declared.part.Start.TheVariants.{Yes, No}
 use Rattle.vrx_core.specs.honest.Chain.{InChain}
-use Rattle.vrx_core.specs.honest.HonestSender.{Carried, IsPart, Travels, HonestSender}
-use Rattle.vrx_core.specs.honest.HonestNetwork.{Origin, FromSender, Elsewhere, HonestNetwork, taken}
+use Rattle.vrx_core.specs.honest.HonestSender.{CarriedPart, IsPart, Travels, HonestSender}
+use Rattle.vrx_core.specs.honest.HonestNetwork.{Origin, FromSender, Elsewhere, HonestNetwork, packets_taken}
 use Rattle.vrx_core.specs.declared.settings.Settings.{Settings}
 use Rattle.vrx_core.specs.declared.event.Event.{Event}
 use Rattle.vrx_core.specs.declared.event.Event.TheVariants.{Datagram, Tick, Pull}
@@ -47,27 +47,35 @@ abbrev second_frame : SentFrame
 second_frame = record { bytes = 1 ∷ 204 ∷ []; key = false; ts = 9; references = 0 ∷ [] }
 
 abbrev sender : Sender
-sender = record { first_wire = 65535; frames = first_frame ∷ second_frame ∷ []; packets = Media 0 0 first_text ∷ Media 0 1 second_text ∷ Empty ∷ Media 1 0 third_text ∷ [] }
+sender = record {
+    first_wire = 65535; frames = first_frame ∷ second_frame ∷ []; packets =
+    Media 0 0 first_text ∷ Media 0 1 second_text ∷ Empty ∷ Media 1 0 third_text ∷ [] }
 
 -- what the packets carry
-abbrev first_part : Carried
+abbrev first_part : CarriedPart
 first_part = record {
   text = first_text;
-  packet = record { marker = false; pt = 96; seq = 65535; ts = 0; ssrc = 10; csrc = []; extension = None; payload = 16 ∷ 0 ∷ 170 ∷ []; padding = 0 };
+  packet = record {
+      marker = false; pt = 96; seq = 65535; ts = 0; ssrc = 10; csrc = []; extension = None; payload =
+      16 ∷ 0 ∷ 170 ∷ []; padding = 0 };
   part = record { start = Yes; key = true; layers = None; body = 0 ∷ 170 ∷ [] };
 }
 
-abbrev second_part : Carried
+abbrev second_part : CarriedPart
 second_part = record {
   text = second_text;
-  packet = record { marker = true; pt = 96; seq = 0; ts = 0; ssrc = 10; csrc = []; extension = None; payload = 0 ∷ 187 ∷ []; padding = 0 };
+  packet = record {
+      marker = true; pt = 96; seq = 0; ts = 0; ssrc = 10; csrc = []; extension = None; payload =
+      0 ∷ 187 ∷ []; padding = 0 };
   part = record { start = No; key = false; layers = None; body = 187 ∷ [] };
 }
 
-abbrev third_part : Carried
+abbrev third_part : CarriedPart
 third_part = record {
   text = third_text;
-  packet = record { marker = true; pt = 96; seq = 2; ts = 9; ssrc = 10; csrc = []; extension = None; payload = 16 ∷ 1 ∷ 204 ∷ []; padding = 0 };
+  packet = record {
+      marker = true; pt = 96; seq = 2; ts = 9; ssrc = 10; csrc = []; extension = None; payload =
+      16 ∷ 1 ∷ 204 ∷ []; padding = 0 };
   part = record { start = Yes; key = false; layers = None; body = 1 ∷ 204 ∷ [] };
 }
 
@@ -76,13 +84,16 @@ are_octets : (octets : List ℕ) → list_all (λ octet. nat_lt octet 256) octet
 are_octets octets h = All-from_recursion (λ octet. octet < 256) octets (each octets h) where
   each : (os : List ℕ) → list_all (λ octet. nat_lt octet 256) os ≡ true → AllByRecursion (λ octet. octet < 256) os
   each [] h = tt
-  each (o ∷ os) h = let both = and_parts (nat_lt o 256) (list_all (λ octet. nat_lt octet 256) os) h in (ltb-true o 256 both.0, each os both.1)
+  each (o ∷ os) h = let both =
+      and_parts (nat_lt o 256) (list_all (λ octet. nat_lt octet 256) os) h in (ltb-true o 256 both.0, each os both.1)
 
 -- each packet is a part of its frame
 first_is : IsPart settings vp8 sender 0 first_frame 2 0 0 first_part
 first_is = record {
   sent = refl;
-  media = record { size = omega arith; below = are_octets first_text refl; reads = refl; no_padding = refl; number = refl; type = refl; source = refl; payload = λ e. cc; part_reads = refl; layers = refl };
+  media = record {
+      size = omega arith; below = are_octets first_text refl; reads = refl; no_padding = refl; number = refl; type =
+      refl; source = refl; payload = λ e. cc; part_reads = refl; layers = refl };
   timestamp = refl;
   marker = (λ e. cc, λ e. absurd (omega arith));
   start = refl;
@@ -91,7 +102,9 @@ first_is = record {
 second_is : IsPart settings vp8 sender 0 first_frame 2 1 1 second_part
 second_is = record {
   sent = refl;
-  media = record { size = omega arith; below = are_octets second_text refl; reads = refl; no_padding = refl; number = refl; type = refl; source = refl; payload = λ e. cc; part_reads = refl; layers = refl };
+  media = record {
+      size = omega arith; below = are_octets second_text refl; reads = refl; no_padding = refl; number = refl; type =
+      refl; source = refl; payload = λ e. cc; part_reads = refl; layers = refl };
   timestamp = refl;
   marker = (λ e. refl, λ e. refl);
   start = λ same. omega arith;
@@ -100,7 +113,9 @@ second_is = record {
 third_is : IsPart settings vp8 sender 1 second_frame 1 0 3 third_part
 third_is = record {
   sent = refl;
-  media = record { size = omega arith; below = are_octets third_text refl; reads = refl; no_padding = refl; number = refl; type = refl; source = refl; payload = λ e. cc; part_reads = refl; layers = refl };
+  media = record {
+      size = omega arith; below = are_octets third_text refl; reads = refl; no_padding = refl; number = refl; type =
+      refl; source = refl; payload = λ e. cc; part_reads = refl; layers = refl };
   timestamp = refl;
   marker = (λ e. refl, λ e. refl);
   start = refl;
@@ -124,8 +139,8 @@ only_one x y c = at_place c.0 c.1 c.2 where
   at_place (suc k) within is = absurd (omega arith)
 
 -- no part of it says a keyframe
-no_key : (c : Carried) → Contains (third_part ∷ []) c → c.part.key ≡ true → second_frame.key ≡ true
-no_key c there key = ap (λ (x : Carried). x.part.key) (only_one third_part c there) ∙ key
+no_key : (c : CarriedPart) → Contains (third_part ∷ []) c → c.part.key ≡ true → second_frame.key ≡ true
+no_key c there key = ap (λ (x : CarriedPart). x.part.key) (only_one third_part c there) ∙ key
 
 second_travels : Travels settings vp8 sender 1 second_frame 3 (third_part ∷ [])
 unfolding third_is
@@ -141,7 +156,7 @@ abbrev place : ℕ → ℕ
 place zero = 0
 place (suc f) = 3
 
-abbrev parts : ℕ → List Carried
+abbrev parts : ℕ → List CarriedPart
 parts zero = first_part ∷ second_part ∷ []
 parts (suc f) = third_part ∷ []
 
@@ -159,7 +174,8 @@ sender-honest = record {
   references = elim [ zero ↦ none | suc f ↦ chains f ];
   apart = elim [ zero ↦ λ e. omega arith | suc f ↦ last f ];
 } where
-  travels : (f : ℕ) → IfSome (slice_get sender.frames (suc f)) (λ frame. Travels settings vp8 sender (suc f) frame (place (suc f)) (parts (suc f)))
+  travels : (f : ℕ) → IfSome (slice_get sender.frames (suc f))
+      (λ frame. Travels settings vp8 sender (suc f) frame (place (suc f)) (parts (suc f)))
   travels zero = second_travels
   travels (suc f) = tt
 
@@ -168,7 +184,9 @@ sender-honest = record {
   order zero (suc g) less within = omega arith
   order (suc f) (suc g) less within = absurd (omega arith)
 
-  others : (i : ℕ) → i < length sender.packets → (slice_get sender.packets i ≡ Some Empty) ⊎ ((f : ℕ) × (f < length sender.frames) × (place f ≤ i) × (i < place f + length (parts f)))
+  others : (i : ℕ) → i < length sender.packets →
+      (slice_get sender.packets i ≡ Some Empty)
+      ⊎ ((f : ℕ) × (f < length sender.frames) × (place f ≤ i) × (i < place f + length (parts f)))
   others zero within = inr (0, omega arith, omega arith, omega arith)
   others (suc zero) within = inr (0, omega arith, omega arith, omega arith)
   others (suc (suc zero)) within = inl refl
@@ -177,11 +195,13 @@ sender-honest = record {
   none : All (λ g. InChain sender 0 g) []
   none = All-nil (λ g. InChain sender 0 g)
 
-  chains : (f : ℕ) → IfSome (slice_get sender.frames (suc f)) (λ frame. All (λ g. InChain sender (suc f) g) frame.references)
+  chains : (f : ℕ) → IfSome (slice_get sender.frames (suc f))
+      (λ frame. All (λ g. InChain sender (suc f) g) frame.references)
   chains zero = All-from_recursion (λ g. InChain sender 1 g) (0 ∷ []) (([], (refl, refl)), tt)
   chains (suc f) = tt
 
-  last : (f : ℕ) → IfSome (slice_get sender.frames (suc f)) (λ frame. IfSome (slice_get sender.frames (suc f + 1)) (λ after. frame.ts ≢ after.ts))
+  last : (f : ℕ) → IfSome (slice_get sender.frames (suc f))
+      (λ frame. IfSome (slice_get sender.frames (suc f + 1)) (λ after. frame.ts ≢ after.ts))
   last zero = tt
   last (suc f) = tt
 
@@ -194,7 +214,9 @@ unfolding are_octets
 third_is_padded = record {
   size = omega arith;
   below = are_octets third_padded refl;
-  packet = record { marker = true; pt = 96; seq = 2; ts = 9; ssrc = 10; csrc = []; extension = None; payload = 16 ∷ 1 ∷ 204 ∷ []; padding = 3 };
+  packet = record {
+      marker = true; pt = 96; seq = 2; ts = 9; ssrc = 10; csrc = []; extension = None; payload =
+      16 ∷ 1 ∷ 204 ∷ []; padding = 3 };
   reads = refl;
   spelled = refl;
 }
@@ -208,7 +230,8 @@ unfolding are_octets
 empty_is = record {
   size = omega arith;
   below = are_octets empty_padded refl;
-  packet = record { marker = false; pt = 96; seq = 1; ts = 5; ssrc = 10; csrc = []; extension = None; payload = []; padding = 4 };
+  packet = record {
+      marker = false; pt = 96; seq = 1; ts = 5; ssrc = 10; csrc = []; extension = None; payload = []; padding = 4 };
   reads = refl;
   number = refl;
   type = refl;
@@ -220,7 +243,8 @@ empty_is = record {
 -- last frame's packet with padding, the same without, a pull, the empty packet, and a pull
 abbrev events : List Event
 events =
-    Datagram 0 second_text ∷ Datagram 1 (7 ∷ []) ∷ Pull 2 ∷ Tick 2 ∷ Datagram 3 first_text ∷ Datagram 3 second_text ∷ Pull 4
+    Datagram 0 second_text ∷ Datagram 1 (7 ∷ []) ∷ Pull 2 ∷ Tick 2 ∷ Datagram 3 first_text ∷ Datagram 3 second_text
+    ∷ Pull 4
     ∷ Datagram 5 third_padded ∷ Datagram 6 third_text ∷ Pull 7 ∷ Datagram 8 empty_padded ∷ Pull 9 ∷ []
 
 abbrev origins : List Origin
@@ -230,7 +254,7 @@ origins =
 
 -- the network is honest
 pub network-honest : HonestNetwork settings vp8 sender [] [] events origins
-unfolding snapshots taken empty_is third_is_padded
+unfolding snapshots packets_taken empty_is third_is_padded
 network-honest = (
   (inl refl, tt),
   (
@@ -260,9 +284,11 @@ network-honest = (
 -- the padded datagram is taken, and the same without padding is a repeat. The last frame waits until the empty packet
 -- came, which is passed over; and the frame has no padding octet
 pub padded_taken : replies settings vp8 [] events
-    ≡ answered (what.Media 65536) ∷ answered (Dropped NotRtp) ∷ ToPull NotReady ∷ ToTick no_feedback ∷ answered (what.Media 65535) ∷ answered (Dropped Repeat)
+    ≡ answered (what.Media 65536) ∷ answered (Dropped NotRtp) ∷ ToPull NotReady ∷ ToTick no_feedback ∷ answered
+    (what.Media 65535) ∷ answered (Dropped Repeat)
     ∷ ToPull (Frame (record { first = 65535; last = 65536; ts = 0; key = true; bytes = 0 ∷ 170 ∷ 187 ∷ [] }))
     ∷ answered (what.Media 65538) ∷ answered (Dropped Repeat) ∷ ToPull NotReady
-    ∷ answered (what.Empty 65537) ∷ ToPull (Frame (record { first = 65538; last = 65538; ts = 9; key = false; bytes = 1 ∷ 204 ∷ [] })) ∷ []
+    ∷ answered (what.Empty 65537) ∷ ToPull
+    (Frame (record { first = 65538; last = 65538; ts = 9; key = false; bytes = 1 ∷ 204 ∷ [] })) ∷ []
 unfolding replies reply snapshots
 padded_taken = refl

@@ -11,9 +11,9 @@ use Rattle.vrx_capture.specs.Reader.{HasNoHead}
 use Rattle.vrx_text.specs.declared.transcript.ErrorReason.{ErrorReason}
 use Rattle.vrx_text.specs.declared.transcript.ErrorReason.TheVariants as errors
 use Rattle.vrx_program.specs.Heads.{RefusesHeads}
-use Rattle.vrx_program.specs.Outcome.{Outcome, status_of, error_text, refused}
-use Rattle.vrx_program.specs.Job.{most_events, texts, accepted_of, refused_of, last_line, bad_line, answered, Begins, IsRefused}
-use Rattle.vrx_program.specs.Inspect.{tells_right, is_head, inspected_event, inspections, inspected_reading, inspected_from, inspected_lines, inspected, inspecting}
+use Rattle.vrx_program.specs.Outcome.{Outcome, status_of, error_text, refusal}
+use Rattle.vrx_program.specs.Job.{most_events, texts, accepted_events, first_refusal, last_line, bad_line, reading_outcome, Begins, IsRefused}
+use Rattle.vrx_program.specs.Inspect.{has_right_settings, is_head, inspected_event, inspections, inspected_reading, inspected_from, inspected_lines, inspection_outcome, inspecting}
 
 -- ---- the events
 
@@ -22,40 +22,48 @@ unfolding inspections texts
 texts-are h [] = refl
 texts-are h ((k, event) ∷ events) = ap (λ t. inspected_event k event ++ t) (texts-are (event ∷ h) events)
 
-accepted-are : (events : List (ℕ × Event)) → events ≡ accepted_of inspecting events
-accepted-are [] = refl
-accepted-are ((k, event) ∷ events) = ap (λ l. (k, event) ∷ l) (accepted-are events)
+settings_or_reason-are : (events : List (ℕ × Event)) → events ≡ accepted_events inspecting events
+settings_or_reason-are [] = refl
+settings_or_reason-are ((k, event) ∷ events) = ap (λ l. (k, event) ∷ l) (settings_or_reason-are events)
 
-none-refused : (events : List (ℕ × Event)) → None ≡ refused_of inspecting events
-none-refused [] = refl
-none-refused ((k, event) ∷ events) = none-refused events
+none-refusal : (events : List (ℕ × Event)) → None ≡ first_refusal inspecting events
+none-refusal [] = refl
+none-refusal ((k, event) ∷ events) = none-refusal events
 
-outcome-is : (r : Reading) → inspected_reading r ≡ answered inspecting r
+outcome-is : (r : Reading) → inspected_reading r ≡ reading_outcome inspecting r
 outcome-is r =
-    ap (λ o. record { status = status_of (last_line o r.bad); told = inspections r.events; last = error_text (last_line o r.bad) }) (none-refused r.events)
-    ∙ ap (λ t. record { status = status_of (last_line (refused_of inspecting r.events) r.bad); told = t; last = error_text (last_line (refused_of inspecting r.events) r.bad) }) (ap inspections (accepted-are r.events) ∙ texts-are [] (accepted_of inspecting r.events))
+    ap (λ o. record {
+    status = status_of (last_line o r.bad); text = inspections r.events; last =
+    error_text (last_line o r.bad) }) (none-refusal r.events)
+    ∙ ap (λ t. record {
+    status = status_of (last_line (first_refusal inspecting r.events) r.bad); text = t; last =
+    error_text (last_line (first_refusal inspecting r.events) r.bad) })
+    (ap inspections (settings_or_reason-are r.events) ∙ texts-are [] (accepted_events inspecting r.events))
 
 -- the first line is right
-pub inspect-begins : (line : List ℕ) → is_head line ≡ true → Begins inspected line inspecting
-inspect-begins line right capture others lines = ap inspected_lines lines ∙ ap (λ b. inspected_from b others) right ∙ outcome-is (reading most_events 2 0 others)
+pub inspect-begins : (line : List ℕ) → is_head line ≡ true → Begins inspection_outcome line inspecting
+inspect-begins line right capture others lines =
+    ap inspected_lines lines ∙ ap (λ b. inspected_from b others) right ∙ outcome-is (reading most_events 2 0 others)
 
 -- ---- the first line
 
 head-long : (line : List ℕ) → longest_line < length line → is_head line ≡ false
 unfolding is_head
-head-long line long = ap (λ b. cond b false (tells_right (settings_in line))) (lt-ltb longest_line (length line) long)
+head-long line long =
+    ap (λ b. cond b false (has_right_settings (settings_in line))) (lt-ltb longest_line (length line) long)
 
-pub head-short : (line : List ℕ) → length line ≤ longest_line → is_head line ≡ tells_right (settings_in line)
+pub head-short : (line : List ℕ) → length line ≤ longest_line → is_head line ≡ has_right_settings (settings_in line)
 unfolding is_head
-head-short line short = ap (λ b. cond b false (tells_right (settings_in line))) (le-ltb longest_line (length line) short)
+head-short line short =
+    ap (λ b. cond b false (has_right_settings (settings_in line))) (le-ltb longest_line (length line) short)
 
-pub inspect-refused : (line : List ℕ) → is_head line ≡ false → IsRefused inspected line errors.Settings
-inspect-refused line wrong capture others lines = ap inspected_lines lines ∙ ap (λ b. inspected_from b others) wrong
+pub inspect-refusal : (line : List ℕ) → is_head line ≡ false → IsRefused inspection_outcome line errors.Settings
+inspect-refusal line wrong capture others lines = ap inspected_lines lines ∙ ap (λ b. inspected_from b others) wrong
 
-no_head : (lines : List (List ℕ)) → HasNoHead lines → inspected_lines lines ≡ refused errors.Settings
+no_head : (lines : List (List ℕ)) → HasNoHead lines → inspected_lines lines ≡ refusal errors.Settings
 no_head [] none = refl
 no_head (line ∷ lines) long = ap (λ b. inspected_from b lines) (head-long line long)
 
-pub inspect-heads : RefusesHeads inspected
+pub inspect-heads : RefusesHeads inspection_outcome
 unfolding lines_of
 inspect-heads = record { refuses = λ capture none. no_head (lines_of capture) none; nothing = refl }

@@ -20,69 +20,103 @@ use Rattle.vrx_core.specs.machine.SettingsFault.{fault_of}
 use Rattle.vrx_program.specs.declared.job.Unanswered.{Unanswered}
 use Rattle.vrx_program.specs.declared.job.Unanswered.TheVariants as unanswered
 use Rattle.vrx_program.specs.Heads.{RefusesHeads}
-use Rattle.vrx_program.specs.Outcome.{Outcome, status_of, error_text, refused}
-use Rattle.vrx_program.specs.Job.{history_after, texts, accepted_of, refused_of, last_line, answered, Begins, IsRefused, IfRefused}
-use Rattle.vrx_program.specs.Replay.{meaning_of, settings_of, taken, accepted, most_events, before_tick, first_tick, first_refused, call_from, call_in, outcome_of, replayed, replaying}
+use Rattle.vrx_program.specs.Outcome.{Outcome, status_of, error_text, refusal}
+use Rattle.vrx_program.specs.Job.{history_after, texts, accepted_events, first_refusal, last_line, reading_outcome, Begins, IsRefused, IfRefused}
+use Rattle.vrx_program.specs.Replay.{meaning_of, settings_of, unless_fault, settings_or_reason, most_events, before_tick, first_tick, first_refused, call_from, call_in, outcome_of, replay_outcome, replaying}
 
 -- the text of events, and then of more
-pub transcript-more : (codec : Meaning) (settings : Settings) (h : List Event) (events more : List (ℕ × Event)) → transcript settings codec h (events ++ more) ≡ transcript settings codec h events ++ transcript settings codec (history_after h events) more
+pub transcript-more : (codec : Meaning) (settings : Settings) (h : List Event) (events more : List (ℕ × Event)) →
+    transcript settings codec h (events ++ more) ≡ transcript settings codec h events ++ transcript settings codec
+    (history_after h events) more
 unfolding transcript
 transcript-more codec settings h [] more = refl
-transcript-more codec settings h ((k, event) ∷ events) more = ap (λ t. text_of k (reply settings codec h event) ++ t) (transcript-more codec settings (event ∷ h) events more) ∙ sym (append_assoc (text_of k (reply settings codec h event)) (transcript settings codec (event ∷ h) events) (transcript settings codec (history_after (event ∷ h) events) more))
+transcript-more codec settings h ((k, event) ∷ events) more =
+    ap (λ t. text_of k (reply settings codec h event) ++ t) (transcript-more codec settings (event ∷ h) events more)
+    ∙ sym (append_assoc (text_of k (reply settings codec h event)) (transcript settings codec (event ∷ h) events)
+    (transcript settings codec (history_after (event ∷ h) events) more))
 
 -- ---- the events of a call
 
 module _ (settings : Settings) (codec : Meaning) where
-  texts-are : (h : List Event) (events : List (ℕ × Event)) → transcript settings codec h events ≡ texts (replaying settings codec) h events
+  texts-are : (h : List Event) (events : List (ℕ × Event)) →
+      transcript settings codec h events ≡ texts (replaying settings codec) h events
   unfolding transcript texts
   texts-are h [] = refl
-  texts-are h ((k, event) ∷ events) = ap (λ t. text_of k (reply settings codec h event) ++ t) (texts-are (event ∷ h) events)
+  texts-are h ((k, event) ∷ events) =
+      ap (λ t. text_of k (reply settings codec h event) ++ t) (texts-are (event ∷ h) events)
 
-  accepted-are : (events : List (ℕ × Event)) → before_tick events ≡ accepted_of (replaying settings codec) events
-  accepted-are [] = refl
-  accepted-are ((k, Datagram moment octets) ∷ events) = ap (λ l. (k, Datagram moment octets) ∷ l) (accepted-are events)
-  accepted-are ((k, Tick moment) ∷ events) = refl
-  accepted-are ((k, Pull moment) ∷ events) = ap (λ l. (k, Pull moment) ∷ l) (accepted-are events)
+  settings_or_reason-are : (events : List (ℕ × Event)) →
+      before_tick events ≡ accepted_events (replaying settings codec) events
+  settings_or_reason-are [] = refl
+  settings_or_reason-are ((k, Datagram moment octets) ∷ events) =
+      ap (λ l. (k, Datagram moment octets) ∷ l) (settings_or_reason-are events)
+  settings_or_reason-are ((k, Tick moment) ∷ events) = refl
+  settings_or_reason-are ((k, Pull moment) ∷ events) = ap (λ l. (k, Pull moment) ∷ l) (settings_or_reason-are events)
 
-  last-is : (events : List (ℕ × Event)) (bad : Option (ℕ × LineReason)) → first_refused (first_tick events) bad ≡ last_line (refused_of (replaying settings codec) events) bad
+  last-is : (events : List (ℕ × Event)) (bad : Option (ℕ × LineReason)) →
+      first_refused (first_tick events) bad ≡ last_line (first_refusal (replaying settings codec) events) bad
   last-is [] None = refl
   last-is [] (Some (k, reason)) = refl
   last-is ((k, Datagram moment octets) ∷ events) bad = last-is events bad
   last-is ((k, Tick moment) ∷ events) bad = refl
   last-is ((k, Pull moment) ∷ events) bad = last-is events bad
 
-  outcome-is : (r : Reading) → record { status = status_of (first_refused (first_tick r.events) r.bad); told = transcript settings codec [] (before_tick r.events); last = error_text (first_refused (first_tick r.events) r.bad) } ≡ answered (replaying settings codec) r
+  outcome-is : (r : Reading) →
+      record {
+      status = status_of (first_refused (first_tick r.events) r.bad); text =
+      transcript settings codec [] (before_tick r.events); last =
+      error_text (first_refused (first_tick r.events) r.bad) } ≡ reading_outcome (replaying settings codec) r
   outcome-is r =
-      ap (λ b. record { status = status_of b; told = transcript settings codec [] (before_tick r.events); last = error_text b }) (last-is r.events r.bad)
-      ∙ ap (λ t. record { status = status_of (last_line (refused_of (replaying settings codec) r.events) r.bad); told = t; last = error_text (last_line (refused_of (replaying settings codec) r.events) r.bad) }) (ap (transcript settings codec []) (accepted-are r.events) ∙ texts-are [] (accepted_of (replaying settings codec) r.events))
+      ap (λ b. record {
+      status = status_of b; text = transcript settings codec [] (before_tick r.events); last =
+      error_text b }) (last-is r.events r.bad)
+      ∙ ap (λ t. record {
+      status = status_of (last_line (first_refusal (replaying settings codec) r.events) r.bad); text = t; last =
+      error_text (last_line (first_refusal (replaying settings codec) r.events) r.bad) })
+      (ap (transcript settings codec []) (settings_or_reason-are r.events)
+      ∙ texts-are [] (accepted_events (replaying settings codec) r.events))
 
 -- the first line tells settings that are taken
-pub replay-begins : (line : List ℕ) (name : CodecName) (settings : Settings) → settings_of line ≡ Ok (name, settings) → Begins replayed line (replaying settings (meaning_of name))
-replay-begins line name settings told capture others lines = ap (λ l. outcome_of (call_in l)) lines ∙ ap (λ s. outcome_of (call_from s others)) told ∙ outcome-is settings (meaning_of name) (reading most_events 2 0 others)
+pub replay-begins : (line : List ℕ) (name : CodecName) (settings : Settings) →
+    settings_of line ≡ Ok (name, settings) → Begins replay_outcome line (replaying settings (meaning_of name))
+replay-begins line name settings told capture others lines = ap (λ l. outcome_of (call_in l)) lines
+    ∙ ap (λ s. outcome_of (call_from s others)) told
+    ∙ outcome-is settings (meaning_of name) (reading most_events 2 0 others)
 
 -- ---- the first line
 
 -- a line that is too long tells no settings
 settings-long : (line : List ℕ) → longest_line < length line → settings_of line ≡ Err errors.Settings
 unfolding settings_of
-settings-long line long = ap (λ b. cond b (Err errors.Settings) (accepted (settings_in line))) (lt-ltb longest_line (length line) long)
+settings-long line long =
+    ap (λ b. cond b (Err errors.Settings) (settings_or_reason (settings_in line)))
+    (lt-ltb longest_line (length line) long)
 
-pub settings-short : (line : List ℕ) → length line ≤ longest_line → settings_of line ≡ accepted (settings_in line)
+pub settings-short : (line : List ℕ) → length line ≤ longest_line →
+    settings_of line ≡ settings_or_reason (settings_in line)
 unfolding settings_of
-settings-short line short = ap (λ b. cond b (Err errors.Settings) (accepted (settings_in line))) (le-ltb longest_line (length line) short)
+settings-short line short =
+    ap (λ b. cond b (Err errors.Settings) (settings_or_reason (settings_in line)))
+    (le-ltb longest_line (length line) short)
 
-pub replay-refused : (line : List ℕ) (reason : ErrorReason) → settings_of line ≡ Err reason → IsRefused replayed line reason
-replay-refused line reason told capture others lines = ap (λ l. outcome_of (call_in l)) lines ∙ ap (λ s. outcome_of (call_from s others)) told
+pub replay-refusal : (line : List ℕ) (reason : ErrorReason) → settings_of line ≡ Err reason →
+    IsRefused replay_outcome line reason
+replay-refusal line reason told capture others lines =
+    ap (λ l. outcome_of (call_in l)) lines ∙ ap (λ s. outcome_of (call_from s others)) told
 
-no_head : (lines : List (List ℕ)) → HasNoHead lines → outcome_of (call_in lines) ≡ refused errors.Settings
+no_head : (lines : List (List ℕ)) → HasNoHead lines → outcome_of (call_in lines) ≡ refusal errors.Settings
 no_head [] none = refl
 no_head (line ∷ lines) long = ap (λ s. outcome_of (call_from s lines)) (settings-long line long)
 
-pub replay-heads : RefusesHeads replayed
+pub replay-heads : RefusesHeads replay_outcome
 unfolding lines_of
 replay-heads = record { refuses = λ capture none. no_head (lines_of capture) none; nothing = refl }
 
 -- no engine stands for its settings
-pub refused-why : (line : List ℕ) (name : CodecName) (settings : Settings) → settings_of line ≡ taken name settings (fault_of settings) → (why : Unanswered) → IfRefused why (λ reason. (codec : CodecName) → taken codec settings (fault_of settings) ≡ Err reason) → IfRefused why (IsRefused replayed line)
-refused-why line name settings told (unanswered.Refused reason) refuses = replay-refused line reason (told ∙ refuses name)
-refused-why line name settings told unanswered.NoMemory refuses = tt
+pub refusal-why : (line : List ℕ) (name : CodecName) (settings : Settings) →
+    settings_of line ≡ unless_fault name settings (fault_of settings) → (why : Unanswered) →
+    IfRefused why (λ reason. (codec : CodecName) → unless_fault codec settings (fault_of settings) ≡ Err reason) →
+    IfRefused why (IsRefused replay_outcome line)
+refusal-why line name settings told (unanswered.Refused reason) refuses =
+    replay-refusal line reason (told ∙ refuses name)
+refusal-why line name settings told unanswered.NoMemory refuses = tt

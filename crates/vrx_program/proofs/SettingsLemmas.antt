@@ -10,34 +10,37 @@ use Rattle.vrx_capture.specs.Line.{longest_line}
 use Rattle.vrx_capture.specs.SettingsLine.{settings_in}
 use Rattle.vrx_capture.specs.declared.settings_line.CodecName.{CodecName}
 use Rattle.vrx_text.specs.declared.transcript.ErrorReason.TheVariants as errors
-use Rattle.vrx_program.specs.Replay.{taken, accepted, settings_of}
-use Rattle.vrx_program.specs.Inspect.{is_right, tells_right, is_head}
+use Rattle.vrx_program.specs.Replay.{unless_fault, settings_or_reason, settings_of}
+use Rattle.vrx_program.specs.Inspect.{is_right, has_right_settings, is_head}
 use Rattle.vrx_program.proofs.ReplayLemmas.{settings-short}
 use Rattle.vrx_program.proofs.InspectLemmas.{head-short}
 
 module _ (line : List ℕ) (short : length line ≤ longest_line) where
   -- the line tells no settings
   pub settings-none : settings_in line ≡ None → settings_of line ≡ Err errors.Settings
-  settings-none none = settings-short line short ∙ ap accepted none
+  settings-none none = settings-short line short ∙ ap settings_or_reason none
 
   pub head-none : settings_in line ≡ None → is_head line ≡ false
-  head-none none = head-short line short ∙ ap tells_right none
+  head-none none = head-short line short ∙ ap has_right_settings none
 
   -- it tells these settings
   module _ (codec : CodecName) (settings : Settings) (told : settings_in line ≡ Some (codec, settings)) where
-    pub told-is : settings_of line ≡ taken codec settings (fault_of settings)
-    told-is = settings-short line short ∙ ap accepted told
+    pub told-is : settings_of line ≡ unless_fault codec settings (fault_of settings)
+    told-is = settings-short line short ∙ ap settings_or_reason told
 
     head-is : is_head line ≡ is_right (fault_of settings)
-    head-is = head-short line short ∙ ap tells_right told
+    head-is = head-short line short ∙ ap has_right_settings told
 
-    pub head-taken : fault_of settings ≡ None → is_head line ≡ true
-    head-taken none = head-is ∙ ap is_right none
+    pub head-unless_fault : fault_of settings ≡ None → is_head line ≡ true
+    head-unless_fault none = head-is ∙ ap is_right none
 
-    head-fault : (fault : NewFault) → (fault ≡ faults.NoMemory) ⊎ (fault_of settings ≡ Some fault) → fault ≢ faults.NoMemory → is_head line ≡ is_right (Some fault)
+    head-fault : (fault : NewFault) → (fault ≡ faults.NoMemory) ⊎ (fault_of settings ≡ Some fault) →
+        fault ≢ faults.NoMemory → is_head line ≡ is_right (Some fault)
     head-fault fault (inl memory) other = absurd (other memory)
     head-fault fault (inr has) other = head-is ∙ ap is_right has
 
-    pub head-right : (fault : NewFault) → (fault ≡ faults.NoMemory) ⊎ (fault_of settings ≡ Some fault) → (result : Result Bool NoMemory) → IfOk result (λ right. right ≡ is_right (Some fault)) → IfOk result (λ right. fault ≢ faults.NoMemory) → IfOk result (λ right. right ≡ is_head line)
+    pub head-right : (fault : NewFault) → (fault ≡ faults.NoMemory) ⊎ (fault_of settings ≡ Some fault) →
+        (result : Result Bool NoMemory) → IfOk result (λ right. right ≡ is_right (Some fault)) →
+        IfOk result (λ right. fault ≢ faults.NoMemory) → IfOk result (λ right. right ≡ is_head line)
     head-right fault has (Ok right) is other = is ∙ sym (head-fault fault has other)
     head-right fault has (Err none) is other = tt

@@ -29,5 +29,9 @@ other_length a b less same = absurd (omega (arith, ap length same))
 pub same_word : (one other : Word) (words : List (List ℕ)) → IsWord one words → IsWord other words → one ≡ other
 same_word Replay Replay words is also = refl
 same_word Inspect Inspect words is also = refl
-same_word Replay Inspect words is also = absurd (other_length (word_text Replay) (word_text Inspect) (lit< tt) (head_same (word_text Replay) (word_text Inspect) (sym is ∙ also)))
-same_word Inspect Replay words is also = absurd (other_length (word_text Replay) (word_text Inspect) (lit< tt) (head_same (word_text Replay) (word_text Inspect) (sym also ∙ is)))
+same_word Replay Inspect words is also =
+    absurd (other_length (word_text Replay) (word_text Inspect) (lit< tt)
+    (head_same (word_text Replay) (word_text Inspect) (sym is ∙ also)))
+same_word Inspect Replay words is also =
+    absurd (other_length (word_text Replay) (word_text Inspect) (lit< tt)
+    (head_same (word_text Replay) (word_text Inspect) (sym also ∙ is)))

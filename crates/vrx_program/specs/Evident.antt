@@ -10,4 +10,5 @@ use Rattle.vrx_core.specs.declared.event.Event.{Event}
 -- after every history it is evident that a frame of an honest sender of VP8 begins with its first packet, under
 -- whatever number
 abbrev pub Vp8BeginsHolds : Type 0
-Vp8BeginsHolds = (settings : Settings) (sender : Sender) → HonestSender settings vp8 sender → (h : List Event) (f from to n : ℕ) → Spans sender f from to → BeginsEvidently settings vp8 sender h from n
+Vp8BeginsHolds = (settings : Settings) (sender : Sender) → HonestSender settings vp8 sender →
+    (h : List Event) (f from to n : ℕ) → Spans sender f from to → BeginsEvidently settings vp8 sender h from n

@@ -7,10 +7,10 @@ use Rattle.vrx_core.specs.honest.HonestNetwork.{Origin, HonestNetwork}
 use Rattle.vrx_core.specs.honest.HonestCall.{HonestCall}
 use Rattle.vrx_core.specs.declared.event.Event.{Event}
 use Rattle.vrx_text.specs.Transcript.{text_of}
-use Rattle.vrx_io.specs.Sink.{extended}
+use Rattle.vrx_io.specs.Sink.{with_more}
 use Rattle.vrx_program.specs.Replay.{Call, call_of, meaning_of}
 use Rattle.vrx_program.specs.Outcome.{error_text}
-use Rattle.vrx_program.specs.Ends.{TookFront}
+use Rattle.vrx_program.specs.Ends.{TookPrefix}
 use Rattle.vrx_program.specs.declared.status.Status.{Status}
 use Rattle.vrx_program.specs.declared.status.Status.TheVariants.{Done, BadCapture}
 
@@ -21,7 +21,8 @@ events_of call = map (λ line. line.1) call.events
 -- a capture's datagrams are what an honest network took from this sender, up to the first bad line
 abbrev pub IsHonestCapture : List ℕ → Sender → List Origin → Type 0
 IsHonestCapture capture sender origins = IsOkAnd (call_of capture) (λ call.
-    HonestSender call.settings (meaning_of call.codec) sender × HonestNetwork call.settings (meaning_of call.codec) sender [] [] (events_of call) origins)
+    HonestSender call.settings (meaning_of call.codec) sender
+    × HonestNetwork call.settings (meaning_of call.codec) sender [] [] (events_of call) origins)
 
 -- the lines of replies, each with the number of its event's line
 abbrev pub lines_text : List (ℕ × Event) → List Reply → List ℕ
@@ -41,9 +42,10 @@ call_text call = lines_text call.events (replies_of call) ++ error_text call.bad
 -- at its pulls the sender's frames, byte for byte, in order, each at most once, from a keyframe on, after all their
 -- references, and notready exactly where no frame is ready. It took all of the text where the run was Done or met a
 -- bad line, else a part from the front
-pub record HonestLines (capture : List ℕ) (sender : Sender) (origins : List Origin) (status : Status) (before after : Option (List ℕ)) : Type 0 where
+pub record HonestLines (capture : List ℕ) (sender : Sender) (origins : List Origin) (status : Status)
+    (before after : Option (List ℕ)) : Type 0 where
   pub call : Call
   pub told : call_of capture ≡ Ok call
   pub honest : HonestCall call.settings (meaning_of call.codec) sender (events_of call) origins (replies_of call)
-  pub took : TookFront before after (call_text call)
-  pub whole : (status ≡ Done) ⊎ (status ≡ BadCapture) → after ≡ extended before (call_text call)
+  pub took : TookPrefix before after (call_text call)
+  pub whole : (status ≡ Done) ⊎ (status ≡ BadCapture) → after ≡ with_more before (call_text call)

@@ -14,7 +14,7 @@ use Rattle.vrx_text.specs.Inspection.{inspection}
 use Rattle.vrx_capture.specs.declared.settings_line.CodecName.{CodecName}
 use Rattle.vrx_text.specs.declared.transcript.ErrorReason.{ErrorReason}
 use Rattle.vrx_text.specs.declared.transcript.ErrorReason.TheVariants as errors
-use Rattle.vrx_program.specs.Outcome.{Outcome, refused, status_of, error_text}
+use Rattle.vrx_program.specs.Outcome.{Outcome, refusal, status_of, error_text}
 use Rattle.vrx_program.specs.Job.{Answering, most_events, bad_line}
 
 -- settings without a fault are right, whatever the codec; and so are those whose only fault is that a replay doesn't
@@ -24,13 +24,13 @@ is_right None = true
 is_right (Some faults.Later) = true
 is_right (Some fault) = false
 
-abbrev pub tells_right : Option (CodecName × Settings) → Bool
-tells_right None = false
-tells_right (Some (codec, settings)) = is_right (fault_of settings)
+abbrev pub has_right_settings : Option (CodecName × Settings) → Bool
+has_right_settings None = false
+has_right_settings (Some (codec, settings)) = is_right (fault_of settings)
 
 -- a settings line is right
 unfoldable pub is_head : List ℕ → Bool
-is_head line = if nat_lt longest_line (length line) then false else tells_right (settings_in line)
+is_head line = if nat_lt longest_line (length line) then false else has_right_settings (settings_in line)
 
 -- the text of an event: of a datagram what it is; ticks and pulls give none
 abbrev pub inspected_event : ℕ → Event → List ℕ
@@ -45,21 +45,22 @@ inspections ((k, event) ∷ lines) = inspected_event k event ++ inspections line
 
 -- what the inspection of lines gives that give this reading
 abbrev pub inspected_reading : Reading → Outcome
-inspected_reading r = let bad : Option (ℕ × ErrorReason) = option_map bad_line r.bad in record { status = status_of bad; told = inspections r.events; last = error_text bad }
+inspected_reading r = let bad : Option (ℕ × ErrorReason) =
+    option_map bad_line r.bad in record { status = status_of bad; text = inspections r.events; last = error_text bad }
 
 -- what the inspection of a first line, which is right or refused, and of the others gives
 abbrev pub inspected_from : Bool → List (List ℕ) → Outcome
 inspected_from true lines = inspected_reading (reading most_events 2 0 lines)
-inspected_from false lines = refused errors.Settings
+inspected_from false lines = refusal errors.Settings
 
 -- what the inspection of these lines gives: an absent first line tells no settings
 abbrev pub inspected_lines : List (List ℕ) → Outcome
-inspected_lines [] = refused errors.Settings
+inspected_lines [] = refusal errors.Settings
 inspected_lines (line ∷ lines) = inspected_from (is_head line) lines
 
 -- what the inspection of a capture gives
-abbrev pub inspected : List ℕ → Outcome
-inspected capture = inspected_lines (lines_of capture)
+abbrev pub inspection_outcome : List ℕ → Outcome
+inspection_outcome capture = inspected_lines (lines_of capture)
 
 -- what an inspection does with each event
 abbrev pub inspecting : Answering

@@ -8,7 +8,7 @@ use Rattle.vrx_capture.specs.declared.line.LineReason.{LineReason}
 use Rattle.vrx_text.specs.declared.transcript.ErrorReason.{ErrorReason}
 use Rattle.vrx_text.specs.declared.transcript.ErrorReason.TheVariants as errors
 use Rattle.vrx_num.specs.declared.limits.TheConstants.{MOST_EVENTS}
-use Rattle.vrx_program.specs.Outcome.{Outcome, refused, status_of, error_text}
+use Rattle.vrx_program.specs.Outcome.{Outcome, refusal, status_of, error_text}
 use Rattle.vrx_program.specs.declared.job.Unanswered.{Unanswered}
 use Rattle.vrx_program.specs.declared.job.Unanswered.TheVariants as unanswered
 
@@ -37,18 +37,18 @@ abbrev pub unless_refused : Option ErrorReason → ℕ × Event → List (ℕ ×
 unless_refused (Some reason) line lines = []
 unless_refused None line lines = line ∷ lines
 
-abbrev pub accepted_of : Answering → List (ℕ × Event) → List (ℕ × Event)
-accepted_of job [] = []
-accepted_of job ((k, event) ∷ lines) = unless_refused (job.refuses event) (k, event) (accepted_of job lines)
+abbrev pub accepted_events : Answering → List (ℕ × Event) → List (ℕ × Event)
+accepted_events job [] = []
+accepted_events job ((k, event) ∷ lines) = unless_refused (job.refuses event) (k, event) (accepted_events job lines)
 
 -- the first that is refused: its line, and why
 abbrev pub first_of : Option ErrorReason → ℕ → Option (ℕ × ErrorReason) → Option (ℕ × ErrorReason)
 first_of (Some reason) k rest = Some (k, reason)
 first_of None k rest = rest
 
-abbrev pub refused_of : Answering → List (ℕ × Event) → Option (ℕ × ErrorReason)
-refused_of job [] = None
-refused_of job ((k, event) ∷ lines) = first_of (job.refuses event) k (refused_of job lines)
+abbrev pub first_refusal : Answering → List (ℕ × Event) → Option (ℕ × ErrorReason)
+first_refusal job [] = None
+first_refusal job ((k, event) ∷ lines) = first_of (job.refuses event) k (first_refusal job lines)
 
 -- a bad line, with its reason
 abbrev pub bad_line : ℕ × LineReason → ℕ × ErrorReason
@@ -60,17 +60,20 @@ last_line (Some refused) bad = Some refused
 last_line None bad = option_map bad_line bad
 
 -- what a run gives if the lines after the first give this reading
-abbrev pub answered : Answering → Reading → Outcome
-answered job r = let last : Option (ℕ × ErrorReason) = last_line (refused_of job r.events) r.bad in record { status = status_of last; told = texts job [] (accepted_of job r.events); last = error_text last }
+abbrev pub reading_outcome : Answering → Reading → Outcome
+reading_outcome job r = let last : Option (ℕ × ErrorReason) = last_line (first_refusal job r.events) r.bad in
+    record { status = status_of last; text = texts job [] (accepted_events job r.events); last = error_text last }
 
 -- a first line begins a run: of each capture with this first line the run gives what the word does with the events of
 -- the other lines
 abbrev pub Begins : (List ℕ → Outcome) → List ℕ → Answering → Type 0
-Begins outcome line job = (capture : List ℕ) (others : List (List ℕ)) → lines_of capture ≡ line ∷ others → outcome capture ≡ answered job (reading most_events 2 0 others)
+Begins outcome line job = (capture : List ℕ) (others : List (List ℕ)) → lines_of capture ≡ line ∷ others →
+    outcome capture ≡ reading_outcome job (reading most_events 2 0 others)
 
 -- a first line is refused, for this reason
 abbrev pub IsRefused : (List ℕ → Outcome) → List ℕ → ErrorReason → Type 0
-IsRefused outcome line reason = (capture : List ℕ) (others : List (List ℕ)) → lines_of capture ≡ line ∷ others → outcome capture ≡ refused reason
+IsRefused outcome line reason =
+    (capture : List ℕ) (others : List (List ℕ)) → lines_of capture ≡ line ∷ others → outcome capture ≡ refusal reason
 
 -- why a word didn't go on at a line: the line is refused, or memory ran out
 abbrev pub IfRefused : Unanswered → (ErrorReason → Type 0) → Type 0

@@ -8,12 +8,12 @@ use Rattle.vrx_program.specs.declared.status.Status.TheVariants.{Done, BadCaptur
 -- how a run ends where nothing fails: its status, the text of the events, and the error line, where there is one
 pub record Outcome : Type 0 where
   pub status : Status
-  pub told : List ℕ
+  pub text : List ℕ
   pub last : List ℕ
 
 -- the whole text
 abbrev pub text_of_outcome : Outcome → List ℕ
-text_of_outcome outcome = outcome.told ++ outcome.last
+text_of_outcome outcome = outcome.text ++ outcome.last
 
 -- Done where no line is refused
 abbrev pub status_of : Option (ℕ × ErrorReason) → Status
@@ -26,5 +26,5 @@ error_text None = []
 error_text (Some (k, reason)) = error_line k reason
 
 -- the first line is refused: no text stands before the error line
-abbrev pub refused : ErrorReason → Outcome
-refused reason = record { status = BadCapture; told = []; last = error_line 1 reason }
+abbrev pub refusal : ErrorReason → Outcome
+refusal reason = record { status = BadCapture; text = []; last = error_line 1 reason }

@@ -20,7 +20,7 @@ use Rattle.vrx_text.specs.declared.transcript.ErrorReason.{ErrorReason}
 use Rattle.vrx_text.specs.declared.transcript.ErrorReason.TheVariants as errors
 use Rattle.vrx_text.specs.Transcript.{text_of}
 use Rattle.vrx_core.specs.machine.Machine.{reply}
-use Rattle.vrx_program.specs.Outcome.{Outcome, refused, status_of, error_text}
+use Rattle.vrx_program.specs.Outcome.{Outcome, refusal, status_of, error_text}
 pub use Rattle.vrx_program.specs.Job.{most_events}
 use Rattle.vrx_program.specs.Job.{Answering}
 use Rattle.vrx_program.specs.declared.job.Unanswered.{Unanswered}
@@ -33,19 +33,20 @@ meaning_of H264 = h264
 
 -- a codec and settings with this fault, if any: the fault is the line's; but RED and retransmissions are right, and not
 -- taken
-abbrev pub taken : CodecName → Settings → Option NewFault → Result (CodecName × Settings) ErrorReason
-taken codec settings (Some faults.Later) = Err errors.Later
-taken codec settings (Some fault) = Err errors.Settings
-taken codec settings None = Ok (codec, settings)
+abbrev pub unless_fault : CodecName → Settings → Option NewFault → Result (CodecName × Settings) ErrorReason
+unless_fault codec settings (Some faults.Later) = Err errors.Later
+unless_fault codec settings (Some fault) = Err errors.Settings
+unless_fault codec settings None = Ok (codec, settings)
 
 -- the codec and the settings that a settings line tells, or why it is refused
-abbrev pub accepted : Option (CodecName × Settings) → Result (CodecName × Settings) ErrorReason
-accepted None = Err errors.Settings
-accepted (Some (codec, settings)) = taken codec settings (fault_of settings)
+abbrev pub settings_or_reason : Option (CodecName × Settings) → Result (CodecName × Settings) ErrorReason
+settings_or_reason None = Err errors.Settings
+settings_or_reason (Some (codec, settings)) = unless_fault codec settings (fault_of settings)
 
 -- the codec and the settings that the first line tells, or why it is refused
 unfoldable pub settings_of : List ℕ → Result (CodecName × Settings) ErrorReason
-settings_of line = if nat_lt longest_line (length line) then Err errors.Settings else accepted (settings_in line)
+settings_of line =
+    if nat_lt longest_line (length line) then Err errors.Settings else settings_or_reason (settings_in line)
 
 -- a call, as a capture tells it: its codec and its settings, its events in order, each with the number of its line, up
 -- to the first line that is refused; and that line with the reason, where there is one
@@ -75,7 +76,9 @@ first_refused None None = None
 
 -- the call with this codec and these settings, of what the lines behind the first give
 abbrev pub call_with : CodecName × Settings → Reading → Call
-call_with told r = record { codec = told.0; settings = told.1; events = before_tick r.events; bad = first_refused (first_tick r.events) r.bad }
+call_with told r = record {
+    codec = told.0; settings = told.1; events = before_tick r.events; bad =
+    first_refused (first_tick r.events) r.bad }
 
 -- the call of the first line, which tells a codec and settings or is refused, and of the others
 abbrev pub call_from : Result (CodecName × Settings) ErrorReason → List (List ℕ) → Result Call ErrorReason
@@ -92,12 +95,14 @@ call_of capture = call_in (lines_of capture)
 
 -- what a replay of a call gives, or of a first line that is refused
 abbrev pub outcome_of : Result Call ErrorReason → Outcome
-outcome_of (Err reason) = refused reason
-outcome_of (Ok call) = record { status = status_of call.bad; told = transcript call.settings (meaning_of call.codec) [] call.events; last = error_text call.bad }
+outcome_of (Err reason) = refusal reason
+outcome_of (Ok call) = record {
+    status = status_of call.bad; text = transcript call.settings (meaning_of call.codec) [] call.events; last =
+    error_text call.bad }
 
 -- what a replay of a capture gives
-abbrev pub replayed : List ℕ → Outcome
-replayed capture = outcome_of (call_of capture)
+abbrev pub replay_outcome : List ℕ → Outcome
+replay_outcome capture = outcome_of (call_of capture)
 
 -- ticks are right, and refused for now
 abbrev pub refuses_tick : Event → Option ErrorReason
@@ -106,7 +111,8 @@ refuses_tick event = None
 
 -- what a replay does with each event: its text is that of the machine's reply
 abbrev pub replaying : Settings → Meaning → Answering
-replaying settings codec = record { text = λ h k event. text_of k (reply settings codec h event); refuses = refuses_tick }
+replaying settings codec =
+    record { text = λ h k event. text_of k (reply settings codec h event); refuses = refuses_tick }
 
 -- why no engine stands for settings with this fault: RED and retransmissions are right, and not taken yet
 abbrev pub hindrance_of : NewFault → Unanswered

@@ -1,14 +1,14 @@
 -- A run in the middle, and what of the source it has read.
 use Rattle.std.specs.Prelude.{◌≡◌, ◌⊎◌, ℕ, List, [], ◌∷◌, ◌++◌, Option, Some, None}
-use Rattle.vrx_io.specs.Sink.{extended}
+use Rattle.vrx_io.specs.Sink.{with_more}
 use Rattle.vrx_io.specs.Reads.{ReadsSo}
 use Rattle.vrx_core.specs.declared.event.Event.{Event}
-use Rattle.vrx_capture.specs.Line.{IsPart}
+use Rattle.vrx_capture.specs.Line.{IsOpenLine}
 use Rattle.vrx_capture.specs.Ahead.{ahead}
 use Rattle.vrx_capture.specs.Reader.{Reader, AreWhole}
 use Rattle.vrx_program.specs.HasRead.{HasRead}
 use Rattle.vrx_program.specs.Outcome.{Outcome}
-use Rattle.vrx_program.specs.Job.{Answering, most_events, history_after, texts, refused_of, Begins}
+use Rattle.vrx_program.specs.Job.{Answering, most_events, history_after, texts, first_refusal, Begins}
 use Rattle.vrx_text.specs.Transcript.{error_line}
 use Rattle.vrx_text.specs.declared.transcript.ErrorReason.{ErrorReason}
 use Rattle.vrx_program.specs.Ends.{EndsOver, EndsBadly, EndsAmid}
@@ -22,39 +22,45 @@ pub record IsWritten (outcome : List ℕ → Outcome) (before after : Option (Li
   pub part : List ℕ
   pub are : octets ≡ lines ++ part
   pub whole : AreWhole lines
-  pub short : IsPart part
+  pub short : IsOpenLine part
   pub right : (lines ≡ []) ⊎ ((outcome lines).status ≡ statuses.Done)
   pub more : List ℕ
-  pub wrote : after ≡ extended before ((outcome lines).told ++ more)
+  pub wrote : after ≡ with_more before ((outcome lines).text ++ more)
 
 -- what a run read of its source: these octets, in one read after the other; and each read was made only once the text of
 -- every whole line read until then was written, and none of these lines was refused
-pub record ReadsInStep {S : Type 0} (outcome : List ℕ → Outcome) (is_read : S → List ℕ → S → Type 0) (left : S → Option (List ℕ)) (old new : S) (before after : Option (List ℕ)) : Type 0 where
+pub record ReadsInStep {S : Type 0} (outcome : List ℕ → Outcome) (is_read : S → List ℕ → S → Type 0)
+    (left : S → Option (List ℕ)) (old new : S) (before after : Option (List ℕ)) : Type 0 where
   pub read : List ℕ
   pub source : left old ≡ ahead read (left new)
   pub reads : ReadsSo is_read (IsWritten outcome before after) [] old new read
 
 -- a run in the middle: the first line began it, the reader read some events, none of which is refused, the word answered
 -- them, and the sink took their text
-pub record Runs {S : Type 0} (outcome : List ℕ → Outcome) (job : Answering) (answers : List Event → Type 0) (is_read : S → List ℕ → S → Type 0) (left : S → Option (List ℕ)) (start now : S) (before after : Option (List ℕ)) (reader : Reader) : Type 0 where
+pub record IsRunning {S : Type 0} (outcome : List ℕ → Outcome) (job : Answering) (answers : List Event → Type 0)
+    (is_read : S → List ℕ → S → Type 0) (left : S → Option (List ℕ)) (start now : S) (before after : Option (List ℕ))
+    (reader : Reader) : Type 0 where
   pub first : List ℕ
   pub begins : Begins outcome first job
   pub events : List (ℕ × Event)
   pub read : HasRead most_events (left start) first reader (left now) events
-  pub accepted : refused_of job events ≡ None
+  pub accepted : first_refusal job events ≡ None
   pub history : answers (history_after [] events)
-  pub wrote : after ≡ extended before (texts job [] events)
+  pub wrote : after ≡ with_more before (texts job [] events)
   pub reads : ReadsSo is_read (IsWritten outcome before after) [] start now (read.gone ++ reader.kept)
 
 -- how a run ends that began over this source and this sink: by its status, and by what it read
-pub record IsOver {S : Type 0} (outcome : List ℕ → Outcome) (is_read : S → List ℕ → S → Type 0) (left : S → Option (List ℕ)) (start now : S) (before after : Option (List ℕ)) (status : Status) : Type 0 where
+pub record IsOver {S : Type 0} (outcome : List ℕ → Outcome) (is_read : S → List ℕ → S → Type 0)
+    (left : S → Option (List ℕ)) (start now : S) (before after : Option (List ℕ)) (status : Status) : Type 0 where
   pub ends : EndsOver outcome status (left start) before (left now) after
   pub in_step : ReadsInStep outcome is_read left start now before after
 
 -- what becomes of a run at an event of line k after a history: the word answered it, and the sink took the text; or the
 -- run ends: in the error line, as the event is refused; in the text; or as memory ran out before it
-abbrev pub IsAnswered : Answering → (List Event → Type 0) → List Event → ℕ → Event → Option Status → Option (List ℕ) → Option (List ℕ) → Type 0
-IsAnswered job answers h k event None before after = (job.refuses event ≡ None) × answers (event ∷ h) × (after ≡ extended before (job.text h k event))
+abbrev pub IsAnswered : Answering → (List Event → Type 0) → List Event → ℕ → Event → Option Status → Option (List ℕ) →
+    Option (List ℕ) → Type 0
+IsAnswered job answers h k event None before after =
+    (job.refuses event ≡ None) × answers (event ∷ h) × (after ≡ with_more before (job.text h k event))
 IsAnswered job answers h k event (Some status) before after =
     ((reason : ErrorReason) × (job.refuses event ≡ Some reason) × EndsBadly status (error_line k reason) before after)
     ⊎ (((job.refuses event ≡ None) × EndsAmid status (job.text h k event) before after)

@@ -1,8 +1,8 @@
 -- The words of a call of the program, and what each gives.
 use Rattle.std.specs.Prelude.{◌≡◌, ℕ, List, [], ◌∷◌, codes}
 use Rattle.vrx_program.specs.Outcome.{Outcome}
-use Rattle.vrx_program.specs.Replay.{replayed}
-use Rattle.vrx_program.specs.Inspect.{inspected}
+use Rattle.vrx_program.specs.Replay.{replay_outcome}
+use Rattle.vrx_program.specs.Inspect.{inspection_outcome}
 use Rattle.vrx_program.specs.declared.word.Word.{Word}
 use Rattle.vrx_program.specs.declared.word.Word.TheVariants.{Replay, Inspect}
 
@@ -16,5 +16,5 @@ IsWord word words = words ≡ word_text word ∷ []
 
 -- what a run with this word gives of a capture
 abbrev pub gives : Word → List ℕ → Outcome
-gives Replay capture = replayed capture
-gives Inspect capture = inspected capture
+gives Replay capture = replay_outcome capture
+gives Inspect capture = inspection_outcome capture

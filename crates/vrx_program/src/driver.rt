@@ -7,7 +7,7 @@ ghost use Rattle.vrx_text.specs.Transcript.{error_line};
 ghost use Rattle.vrx_program.specs.Counts.{IsCounted};
 ghost use Rattle.vrx_program.specs.Ends.{EndsBadly};
 ghost use Rattle.vrx_program.specs.Job.{most_events};
-ghost use Rattle.vrx_program.specs.Runs.{Runs, IsOver, IsAnswered};
+ghost use Rattle.vrx_program.specs.Runs.{IsRunning, IsOver, IsAnswered};
 
 use crate::job::{Job, Unanswered};
 use crate::status::Status;
@@ -77,7 +77,7 @@ fn answer<J: Job, K: Sink>(
 }
 
 /// Takes the next event of a capture, has it answered and writes the text. A status ends the run.
-fn step<J: Job, S: Source, K: Sink>(
+fn take_event<J: Job, S: Source, K: Sink>(
     alloc: Global,
     job: &mut J,
     lines: &mut Lines,
@@ -88,9 +88,9 @@ fn step<J: Job, S: Source, K: Sink>(
     requires room { lines.old.max ≡ most_events }
     requires count { J.count job.old ≡ lines.old.events }
     ensures runs { (start : S) (before : Option (List ℕ)) →
-        Runs J.outcome (J.answering job.old) (J.answered job.old) S.is_read S.left start source.old before (K.taken sink.old) lines.old →
+        IsRunning J.outcome (J.answering job.old) (J.answered job.old) S.is_read S.left start source.old before (K.taken sink.old) lines.old →
         MatchOption result
-        (Runs J.outcome (J.answering job.new) (J.answered job.new) S.is_read S.left start source.new before (K.taken sink.new) lines.new)
+        (IsRunning J.outcome (J.answering job.new) (J.answered job.new) S.is_read S.left start source.new before (K.taken sink.new) lines.new)
         (λ status. IsOver J.outcome S.is_read S.left start source.new before (K.taken sink.new) status) }
     ensures on { IfNone result ((J.count job.new ≡ lines.new.events) ×
         (lines.new.events ≡ lines.old.events + 1) × (lines.new.events ≤ most_events)) }
@@ -125,7 +125,7 @@ fn begin<J: Job, S: Source, K: Sink>(
 ) -> Result<J, Status>
     requires fresh { lines.old ≡ opening most_events }
     ensures runs { MatchResult result
-        (λ job. Runs J.outcome (J.answering job) (J.answered job) S.is_read S.left source.old source.new (K.taken sink.old) (K.taken sink.new) lines.new)
+        (λ job. IsRunning J.outcome (J.answering job) (J.answered job) S.is_read S.left source.old source.new (K.taken sink.old) (K.taken sink.new) lines.new)
         (λ status. IsOver J.outcome S.is_read S.left source.old source.new (K.taken sink.old) (K.taken sink.new) status) }
     ensures on { IfOk result (λ job. (J.count job ≡ 0) × (lines.new.events ≡ 0)) }
     ensures room { lines.new.max ≡ most_events }
@@ -175,7 +175,7 @@ pub(crate) fn drive<J: Job, S: Source, K: Sink>(
     };
     let mut text = Vec::new(alloc);
     'events: loop {
-        if let Some(status) = step(alloc, &mut job, &mut lines, &mut text, source, sink) {
+        if let Some(status) = take_event(alloc, &mut job, &mut lines, &mut text, source, sink) {
             return status;
         }
     }

@@ -4,7 +4,7 @@ ghost use Rattle.std.specs.Prelude.{◌≡◌, ◌≢◌, ◌⊎◌, ◌+◌, �
 ghost use Rattle.vrx_core.specs.machine.SettingsFault.{fault_of as fault_of_settings};
 ghost use Rattle.vrx_capture.specs.Line.{longest_line};
 ghost use Rattle.vrx_text.specs.Inspection.{inspection};
-ghost use Rattle.vrx_program.specs.Inspect.{is_right, is_head, inspecting, inspected};
+ghost use Rattle.vrx_program.specs.Inspect.{is_right, is_head, inspecting, inspection_outcome};
 
 use crate::job::{Job, Unanswered};
 use std::alloc::Global;
@@ -45,7 +45,7 @@ fn is_right_but_for(fault: NewFault) -> Result<bool, NoMemory>
 }
 
 /// Whether the settings line is right, if a replay takes its settings or not.
-fn tells_right(alloc: Global, line: &[u8]) -> Result<bool, NoMemory>
+fn has_right_settings(alloc: Global, line: &[u8]) -> Result<bool, NoMemory>
     requires short { length line.now ≤ longest_line }
     ensures right { IfOk result (λ right. right ≡ is_head line.now) }
 {
@@ -73,7 +73,7 @@ fn add_line(alloc: Global, k: u32, bytes: &[u8], text: &mut Vec<u8>) -> Result<(
 }
 
 impl Job for Inspect {
-    ghost outcome = { inspected };
+    ghost outcome = { inspection_outcome };
 
     ghost answering = { λ _. inspecting };
 
@@ -84,7 +84,7 @@ impl Job for Inspect {
     fn refuses_heads() {}
 
     fn begin(alloc: Global, line: &[u8]) -> Result<Inspect, Unanswered> {
-        match tells_right(alloc, line) {
+        match has_right_settings(alloc, line) {
             Ok(true) => Ok(Inspect { alloc, events: 0 }),
             Ok(false) => Err(Unanswered::Refused(ErrorReason::Settings)),
             Err(NoMemory) => Err(Unanswered::NoMemory),

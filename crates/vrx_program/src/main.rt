@@ -108,7 +108,7 @@ fn words_of(rt: &HostRuntime) -> io::Result<Vec<String>> {
 }
 
 /// Tells a person why a run wasn't done, on standard error.
-fn tell(rt: &HostRuntime, status: Status) {
+fn report(rt: &HostRuntime, status: Status) {
     if let Some(cause) = status.cause() {
         let _ = eprintln!(rt; "{cause}");
     }
@@ -126,6 +126,6 @@ fn main(rt: HostRuntime) -> ExitCode {
         // A word that is no text is none that the program knows.
         Err(_) => Status::BadUsage,
     };
-    tell(&rt, status);
+    report(&rt, status);
     ExitCode::from(status.number())
 }

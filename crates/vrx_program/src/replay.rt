@@ -8,7 +8,7 @@ ghost use Rattle.vrx_core.specs.declared.event.Event.{Event};
 ghost use Rattle.vrx_text.specs.Transcript.{text_of};
 ghost use Rattle.vrx_capture.specs.declared.settings_line.CodecName.{CodecName};
 ghost use Rattle.vrx_program.specs.Job.{IfRefused, most_events};
-ghost use Rattle.vrx_program.specs.Replay.{refuses_tick, replayed, hindrance_of, taken};
+ghost use Rattle.vrx_program.specs.Replay.{refuses_tick, replay_outcome, hindrance_of, unless_fault};
 ghost use Rattle.vrx_program.specs.Replays.{replaying_by, HasReplayed, replayed_count};
 
 use crate::job::{Job, Unanswered};
@@ -17,9 +17,7 @@ use vrx_codec::Codec;
 use vrx_core::{Engine, Event, NewFault, Settings};
 use vrx_h264::H264;
 use vrx_num::NoMemory;
-use vrx_text::{
-    CodecName, ErrorReason, read_settings, write_handled, write_pulled, write_tick,
-};
+use vrx_text::{CodecName, ErrorReason, read_settings, write_handled, write_pulled, write_tick};
 use vrx_vp8::Vp8;
 
 /// A replay: the engine of the codec that the first line tells.
@@ -76,7 +74,7 @@ fn reply_of<C: Codec>(
 }
 
 /// Why no engine stands for settings with a fault: RED and retransmissions are right, and not taken yet.
-fn hindered_by(fault: NewFault) -> Unanswered
+fn hindrance_of(fault: NewFault) -> Unanswered
     ensures reason { result ≡ hindrance_of fault }
 {
     match fault {
@@ -91,21 +89,21 @@ fn hindered_by(fault: NewFault) -> Unanswered
 }
 
 /// The engine of settings, if they have no fault.
-fn opened<C: Codec>(alloc: Global, settings: Settings) -> Result<Engine<C>, Unanswered>
+fn engine_for<C: Codec>(alloc: Global, settings: Settings) -> Result<Engine<C>, Unanswered>
     ensures settings { IfOk result (λ engine. (fault_of settings ≡ None) × (engine.settings ≡ settings)) }
     ensures stands { IfOk result (λ engine. StandsFor C.meaning engine []) }
     ensures count { IfOk result (λ engine. engine.events ≡ 0) }
     ensures refused { IfErr result (λ why. IfRefused why (λ reason.
-        (name : CodecName) → taken name settings (fault_of settings) ≡ Err reason)) }
+        (name : CodecName) → unless_fault name settings (fault_of settings) ≡ Err reason)) }
 {
     match Engine::<C>::new(alloc, settings) {
         Ok(engine) => Ok(engine),
-        Err(fault) => Err(hindered_by(fault)),
+        Err(fault) => Err(hindrance_of(fault)),
     }
 }
 
 impl Job for Replay {
-    ghost outcome = { replayed };
+    ghost outcome = { replay_outcome };
 
     ghost answering = { replaying_by };
 
@@ -120,11 +118,11 @@ impl Job for Replay {
             return Err(Unanswered::Refused(ErrorReason::Settings));
         };
         match codec {
-            CodecName::Vp8 => match opened::<Vp8>(alloc, settings) {
+            CodecName::Vp8 => match engine_for::<Vp8>(alloc, settings) {
                 Ok(engine) => Ok(Replay::Vp8(engine)),
                 Err(why) => Err(why),
             },
-            CodecName::H264 => match opened::<H264>(alloc, settings) {
+            CodecName::H264 => match engine_for::<H264>(alloc, settings) {
                 Ok(engine) => Ok(Replay::H264(engine)),
                 Err(why) => Err(why),
             },

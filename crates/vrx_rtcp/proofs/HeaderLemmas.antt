@@ -7,7 +7,8 @@ use Rattle.vrx_rtcp.specs.Packet.{IsPadding, first_octet}
 use Rattle.vrx_rtcp.specs.Fault.{is_bad_padding}
 
 -- the first octet of a packet of version 2 is that of its padding bit and its count
-pub first_octet-of : (first : ℕ) → first < 256 → first / 64 ≡ 2 → first_octet (eqb (first / 32 % 2) 1) (first % 32) ≡ first
+pub first_octet-of : (first : ℕ) → first < 256 → first / 64 ≡ 2 →
+    first_octet (eqb (first / 32 % 2) 1) (first % 32) ≡ first
 first_octet-of first below version =
     elim (cases_eq (first / 32 % 2) 1) [
       | inl padded ↦ rw (padded) (omega arith)
@@ -19,7 +20,8 @@ pub version-first_octet : (padded : Bool) (count : ℕ) → count < 32 → first
 version-first_octet false count below = omega arith
 version-first_octet true count below = omega arith
 
-pub is_padded-first_octet : (padded : Bool) (count : ℕ) → count < 32 → eqb (first_octet padded count / 32 % 2) 1 ≡ padded
+pub is_padded-first_octet : (padded : Bool) (count : ℕ) → count < 32 →
+    eqb (first_octet padded count / 32 % 2) 1 ≡ padded
 is_padded-first_octet false count below = ne_eqb ((128 + 0 + count) / 32 % 2) 1 (omega arith)
 is_padded-first_octet true count below = let one : (128 + 32 + count) / 32 % 2 ≡ 1 = omega arith in rw one refl
 
@@ -43,15 +45,21 @@ good-padding padding size good =
       | inl none ↦ let h = rw none at good in absurd cc
       | inr some ↦ let rest = rw (ne_eqb padding 0 some) at good in
           elim (cases_eq (padding % 4) 0) [
-            | inl whole ↦ let last = rw whole at rest in record { some = omega arith; whole = whole; within = omega (arith, ltb-false size (padding + 4) last) }
+            | inl whole ↦ let last = rw whole at rest in
+                record {
+                some = omega arith; whole = whole; within = omega (arith, ltb-false size (padding + 4) last) }
             | inr broken ↦ let h = rw (ne_eqb (padding % 4) 0 broken) at rest in absurd cc
           ]
     ]
 
 -- the last octets, whose number the last of them tells, are padding
-pub padding-is : (body : List ℕ) (padding n : ℕ) → length body ≡ n → 1 ≤ padding → padding ≤ n → padding % 4 ≡ 0 → get_or body (n - 1) 0 ≡ padding → IsPadding true (drop (n - padding) body)
+pub padding-is : (body : List ℕ) (padding n : ℕ) → length body ≡ n → 1 ≤ padding → padding ≤ n → padding % 4 ≡ 0 →
+    get_or body (n - 1) 0 ≡ padding → IsPadding true (drop (n - padding) body)
 padding-is body padding n len some within whole last =
     let tail = drop (n - padding) body in
     let len_tail : length tail ≡ padding = omega (arith, length-drop (n - padding) body) in
-    let last_tail : get_or tail (padding - 1) 0 ≡ padding = get_or-drop (n - padding) body (padding - 1) 0 ∙ ap (λ (k : ℕ). get_or body k 0) (let k : (n - padding) + (padding - 1) ≡ n - 1 = omega arith in k) ∙ last in
-    (take (padding - 1) tail, front_and_last tail (padding - 1) (omega arith) ∙ ap (λ (k : ℕ). take (padding - 1) tail ++ k ∷ []) (last_tail ∙ sym len_tail), ap (λ (k : ℕ). k % 4) len_tail ∙ whole)
+    let last_tail : get_or tail (padding - 1) 0 ≡ padding = get_or-drop (n - padding) body (padding - 1) 0
+        ∙ ap (λ (k : ℕ). get_or body k 0) (let k : (n - padding) + (padding - 1) ≡ n - 1 = omega arith in k) ∙ last in
+    (take (padding - 1) tail, front_and_last tail (padding - 1) (omega arith)
+    ∙ ap (λ (k : ℕ). take (padding - 1) tail ++ k ∷ []) (last_tail ∙ sym len_tail), ap (λ (k : ℕ). k % 4) len_tail
+    ∙ whole)

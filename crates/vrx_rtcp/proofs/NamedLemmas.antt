@@ -22,21 +22,26 @@ use Rattle.vrx_rtcp.proofs.PacketLemmas.{Reads, reads-packet}
 scaled : ℕ → ℕ → List ℕ → ℕ
 scaled first i numbers = sum_by (λ n. 2 ^ (n - first - i)) (numbers_in_reach numbers first)
 
-scaled-near : (first i n : ℕ) (numbers : List ℕ) → first < n → n ≤ first + 16 → scaled first i (n ∷ numbers) ≡ 2 ^ (n - first - i) + scaled first i numbers
+scaled-near : (first i n : ℕ) (numbers : List ℕ) → first < n → n ≤ first + 16 →
+    scaled first i (n ∷ numbers) ≡ 2 ^ (n - first - i) + scaled first i numbers
 unfolding scaled
 scaled-near first i n numbers above within =
-    ap (λ (x : List ℕ). sum_by (λ (m : ℕ). 2 ^ (m - first - i)) x) (in_reach-near first n numbers above within) ∙ sum_by-cons (λ (m : ℕ). 2 ^ (m - first - i)) n (numbers_in_reach numbers first)
+    ap (λ (x : List ℕ). sum_by (λ (m : ℕ). 2 ^ (m - first - i)) x) (in_reach-near first n numbers above within)
+    ∙ sum_by-cons (λ (m : ℕ). 2 ^ (m - first - i)) n (numbers_in_reach numbers first)
 
-scaled-beyond : (first i n : ℕ) (numbers : List ℕ) → first + 16 < n → scaled first i (n ∷ numbers) ≡ scaled first i numbers
+scaled-beyond : (first i n : ℕ) (numbers : List ℕ) → first + 16 < n →
+    scaled first i (n ∷ numbers) ≡ scaled first i numbers
 unfolding scaled
-scaled-beyond first i n numbers beyond = ap (λ (x : List ℕ). sum_by (λ (m : ℕ). 2 ^ (m - first - i)) x) (in_reach-beyond first n numbers beyond)
+scaled-beyond first i n numbers beyond =
+    ap (λ (x : List ℕ). sum_by (λ (m : ℕ). 2 ^ (m - first - i)) x) (in_reach-beyond first n numbers beyond)
 
 scaled-none : (first i : ℕ) → scaled first i [] ≡ 0
 unfolding scaled
 scaled-none first i = refl
 
 -- beyond first + i the bits are twice what they are one place further
-halves : (top first i p : ℕ) (numbers : List ℕ) → first + i ≤ p → RisesTo top p numbers → scaled first i numbers ≡ 2 * scaled first (i + 1) numbers
+halves : (top first i p : ℕ) (numbers : List ℕ) → first + i ≤ p → RisesTo top p numbers →
+    scaled first i numbers ≡ 2 * scaled first (i + 1) numbers
 halves top first i p [] past rises = omega (arith, scaled-none first i, scaled-none first (i + 1))
 halves top first i p (n ∷ numbers) past rises =
     elim (cases_lt (first + 16) n) [
@@ -49,7 +54,9 @@ halves top first i p (n ∷ numbers) past rises =
           let here = scaled-near first i n numbers (omega (arith, rises.0)) near in
           let further = scaled-near first (i + 1) n numbers (omega (arith, rises.0)) near in
           let rest = halves top first i n numbers (omega (arith, rises.0)) rises.1 in
-          let twice : 2 ^ (n - first - i) ≡ 2 ^ (n - first - (i + 1)) * 2 = ap (λ (k : ℕ). 2 ^ k) (let k : n - first - i ≡ suc (n - first - (i + 1)) = omega (arith, rises.0) in k) ∙ pow-suc 2 (n - first - (i + 1)) in
+          let twice : 2 ^ (n - first - i) ≡ 2 ^ (n - first - (i + 1)) * 2 =
+              ap (λ (k : ℕ). 2 ^ k) (let k : n - first - i ≡ suc (n - first - (i + 1)) = omega (arith, rises.0) in k)
+              ∙ pow-suc 2 (n - first - (i + 1)) in
           omega (arith, here, further, rest, twice)
     ]
 
@@ -57,45 +64,55 @@ halves top first i p (n ∷ numbers) past rises =
 
 -- the numbers that the bits from i on name, of which so many are left
 named_from : ℕ → ℕ → ℕ → ℕ → List ℕ
-named_from first bits i left = map (λ j. (first % 65536 + j) % 65536) (filter (λ j. eqb (bit_at bits (j - 1)) 1) (range_with_len i left))
+named_from first bits i left =
+    map (λ j. (first % 65536 + j) % 65536) (filter (λ j. eqb (bit_at bits (j - 1)) 1) (range_with_len i left))
 
 abbrev wire : List ℕ → List ℕ
 wire numbers = map (λ n. n % 65536) numbers
 
-named_from-set : (first bits i left : ℕ) → bits / 2 ^ (i - 1) % 2 ≡ 1 → named_from first bits i (suc left) ≡ (first % 65536 + i) % 65536 ∷ named_from first bits (i + 1) left
+named_from-set : (first bits i left : ℕ) → bits / 2 ^ (i - 1) % 2 ≡ 1 →
+    named_from first bits i (suc left) ≡ (first % 65536 + i) % 65536 ∷ named_from first bits (i + 1) left
 unfolding named_from
 named_from-set first bits i left set = rw set refl
 
-named_from-clear : (first bits i left : ℕ) → bits / 2 ^ (i - 1) % 2 ≡ 0 → named_from first bits i (suc left) ≡ named_from first bits (i + 1) left
+named_from-clear : (first bits i left : ℕ) → bits / 2 ^ (i - 1) % 2 ≡ 0 →
+    named_from first bits i (suc left) ≡ named_from first bits (i + 1) left
 unfolding named_from
 named_from-clear first bits i left clear = rw clear refl
 
 -- the bits from the next place on
 further : (bits i : ℕ) → 1 ≤ i → bits / 2 ^ (i + 1 - 1) ≡ bits / 2 ^ (i - 1) / 2
-further bits i some = ap (λ (k : ℕ). bits / 2 ^ k) (let k : i + 1 - 1 ≡ (i - 1) + 1 = omega (arith, some) in k) ∙ sym (shr-shr bits (i - 1) 1)
+further bits i some = ap (λ (k : ℕ). bits / 2 ^ k) (let k : i + 1 - 1 ≡ (i - 1) + 1 = omega (arith, some) in k)
+    ∙ sym (shr-shr bits (i - 1) 1)
 
 none_named : (first bits i : ℕ) → named_from first bits i 0 ≡ []
 unfolding named_from
 none_named first bits i = refl
 
-named_bits : (left top first bits i p : ℕ) (numbers : List ℕ) → i + left ≡ 17 → 1 ≤ i → p + 1 ≡ first + i → bits / 2 ^ (i - 1) ≡ scaled first i numbers → RisesTo top p numbers → named_from first bits i left ≡ wire (numbers_in_reach numbers first)
+named_bits : (left top first bits i p : ℕ) (numbers : List ℕ) → i + left ≡ 17 → 1 ≤ i → p + 1 ≡ first + i →
+    bits / 2 ^ (i - 1) ≡ scaled first i numbers → RisesTo top p numbers →
+    named_from first bits i left ≡ wire (numbers_in_reach numbers first)
 named_bits zero top first bits i p numbers count some place worth rises =
     let none = in_reach-far top first p numbers (omega arith) rises in none_named first bits i ∙ sym (ap wire none)
 named_bits (suc left) top first bits i p [] count some place worth rises =
     let zeros : bits / 2 ^ (i - 1) ≡ 0 = worth ∙ scaled-none first i in
     named_from-clear first bits i left (omega (arith, zeros))
-    ∙ named_bits left (p + 1) first bits (i + 1) (p + 1) [] (omega (arith, count)) (omega arith) (omega arith) (further bits i some ∙ let e = scaled-none first (i + 1) in omega (arith, zeros, e)) (omega arith)
+    ∙ named_bits left (p + 1) first bits (i + 1) (p + 1) [] (omega (arith, count)) (omega arith) (omega arith)
+    (further bits i some ∙ let e = scaled-none first (i + 1) in omega (arith, zeros, e)) (omega arith)
 named_bits (suc left) top first bits i p (n ∷ numbers) count some place worth rises =
     elim (cases_eq n (p + 1)) [
       | inl here ↦
           let reach : n ≤ first + 16 = omega (arith, count) in
           let above : first < n = omega arith in
           let one = scaled-near first i n numbers above reach in
-          let lowest : 2 ^ (n - first - i) ≡ 1 = ap (λ (k : ℕ). 2 ^ k) (let k : n - first - i ≡ 0 = omega arith in k) in
+          let lowest : 2 ^ (n - first - i) ≡ 1 =
+              ap (λ (k : ℕ). 2 ^ k) (let k : n - first - i ≡ 0 = omega arith in k) in
           let half = halves top first i n numbers (omega arith) rises.1 in
           let set : bits / 2 ^ (i - 1) % 2 ≡ 1 = omega (arith, worth, one, lowest, half) in
-          let next : bits / 2 ^ (i + 1 - 1) ≡ scaled first (i + 1) numbers = further bits i some ∙ omega (arith, worth, one, lowest, half) in
-          let rest = named_bits left top first bits (i + 1) n numbers (omega (arith, count)) (omega arith) (omega arith) next rises.1 in
+          let next : bits / 2 ^ (i + 1 - 1) ≡ scaled first (i + 1) numbers =
+              further bits i some ∙ omega (arith, worth, one, lowest, half) in
+          let rest = named_bits left top first bits (i + 1) n numbers (omega (arith, count)) (omega arith)
+              (omega arith) next rises.1 in
           let wrapped : (first % 65536 + i) % 65536 ≡ n % 65536 = omega arith in
           named_from-set first bits i left set
           ∙ ap (λ (k : ℕ). k ∷ named_from first bits (i + 1) left) wrapped
@@ -105,23 +122,30 @@ named_bits (suc left) top first bits i p (n ∷ numbers) count some place worth 
           let past : RisesTo top (p + 1) (n ∷ numbers) = (omega (arith, rises.0), rises.1) in
           let half = halves top first i (p + 1) (n ∷ numbers) (omega arith) past in
           let clear : bits / 2 ^ (i - 1) % 2 ≡ 0 = omega (arith, worth, half) in
-          let next : bits / 2 ^ (i + 1 - 1) ≡ scaled first (i + 1) (n ∷ numbers) = further bits i some ∙ omega (arith, worth, half) in
+          let next : bits / 2 ^ (i + 1 - 1) ≡ scaled first (i + 1) (n ∷ numbers) =
+              further bits i some ∙ omega (arith, worth, half) in
           named_from-clear first bits i left clear
-          ∙ named_bits left top first bits (i + 1) (p + 1) (n ∷ numbers) (omega (arith, count)) (omega arith) (omega arith) next past
+          ∙ named_bits left top first bits (i + 1) (p + 1) (n ∷ numbers) (omega (arith, count)) (omega arith)
+          (omega arith) next past
     ]
 
 -- an item names its first number and those in its reach
-item_numbers-are : (top first : ℕ) (numbers : List ℕ) → RisesTo top first numbers → item_numbers (first % 65536) (blp_of numbers first) ≡ wire (first ∷ numbers_in_reach numbers first)
+item_numbers-are : (top first : ℕ) (numbers : List ℕ) → RisesTo top first numbers →
+    item_numbers (first % 65536) (blp_of numbers first) ≡ wire (first ∷ numbers_in_reach numbers first)
 unfolding named_from scaled
 item_numbers-are top first numbers rises =
-    ap (λ (x : List ℕ). first % 65536 ∷ x) (named_bits 16 top first (blp_of numbers first) 1 first numbers refl (omega arith) refl (omega arith) rises)
+    ap (λ (x : List ℕ). first % 65536 ∷ x)
+    (named_bits 16 top first (blp_of numbers first) 1 first numbers refl (omega arith) refl (omega arith) rises)
 
 -- ---- what items name
 
 -- the octets of an item, and others after them
-numbers_named-item : (pid blp : ℕ) (items : List ℕ) → pid < 65536 → blp < 65536 → numbers_named ((to_be_bytes w16 pid ++ to_be_bytes w16 blp) ++ items) ≡ item_numbers pid blp ++ numbers_named items
+numbers_named-item : (pid blp : ℕ) (items : List ℕ) → pid < 65536 → blp < 65536 →
+    numbers_named ((to_be_bytes w16 pid ++ to_be_bytes w16 blp) ++ items) ≡ item_numbers pid blp
+    ++ numbers_named items
 numbers_named-item pid blp items pid_fits blp_fits =
-    ap (λ (k : ℕ). item_numbers k (from_be_bytes w16 (to_be_bytes w16 blp)) ++ numbers_named items) (from_be_bytes-to_be_bytes_2 pid pid_fits)
+    ap (λ (k : ℕ). item_numbers k (from_be_bytes w16 (to_be_bytes w16 blp)) ++ numbers_named items)
+    (from_be_bytes-to_be_bytes_2 pid pid_fits)
     ∙ ap (λ (k : ℕ). item_numbers pid k ++ numbers_named items) (from_be_bytes-to_be_bytes_2 blp blp_fits)
 
 -- the numbers beyond the reach of an item
@@ -132,18 +156,21 @@ beyond-near : (first n : ℕ) (numbers : List ℕ) → n ≤ first + 16 → beyo
 unfolding beyond
 beyond-near first n numbers near = rw (le-ltb (first + 16) n near) refl
 
-beyond-far : (top first p : ℕ) (numbers : List ℕ) → first + 16 ≤ p → RisesTo top p numbers → beyond first numbers ≡ numbers
+beyond-far : (top first p : ℕ) (numbers : List ℕ) → first + 16 ≤ p → RisesTo top p numbers →
+    beyond first numbers ≡ numbers
 unfolding beyond
 beyond-far top first p [] far rises = refl
 beyond-far top first p (n ∷ numbers) far rises =
-    rw (lt-ltb (first + 16) n (omega (arith, rises.0))) (ap (λ (x : List ℕ). n ∷ x) (beyond-far top first n numbers (omega (arith, rises.0)) rises.1))
+    rw (lt-ltb (first + 16) n (omega (arith, rises.0)))
+    (ap (λ (x : List ℕ). n ∷ x) (beyond-far top first n numbers (omega (arith, rises.0)) rises.1))
 
 nothing_beyond : (first : ℕ) → beyond first [] ≡ []
 unfolding beyond
 nothing_beyond first = refl
 
 -- numbers that rise are those in reach, and then those beyond
-both : (top first p : ℕ) (numbers : List ℕ) → first ≤ p → RisesTo top p numbers → numbers_in_reach numbers first ++ beyond first numbers ≡ numbers
+both : (top first p : ℕ) (numbers : List ℕ) → first ≤ p → RisesTo top p numbers →
+    numbers_in_reach numbers first ++ beyond first numbers ≡ numbers
 both top first p [] above rises = nothing_beyond first
 both top first p (n ∷ numbers) above rises =
     elim (cases_lt (first + 16) n) [
@@ -152,7 +179,8 @@ both top first p (n ∷ numbers) above rises =
           let all = beyond-far top first (first + 16) (n ∷ numbers) (omega arith) (far, rises.1) in
           ap (λ (x : List ℕ). x ++ beyond first (n ∷ numbers)) none ∙ all
       | inr near ↦
-          ap (λ (x : List ℕ). x ++ beyond first (n ∷ numbers)) (in_reach-near first n numbers (omega (arith, rises.0)) near)
+          ap (λ (x : List ℕ). x ++ beyond first (n ∷ numbers))
+          (in_reach-near first n numbers (omega (arith, rises.0)) near)
           ∙ ap (λ (x : List ℕ). n ∷ (numbers_in_reach numbers first ++ x)) (beyond-near first n numbers near)
           ∙ ap (λ (x : List ℕ). n ∷ x) (both top first n numbers (omega (arith, rises.0)) rises.1)
     ]
@@ -172,27 +200,38 @@ named-item : (top n : ℕ) (before numbers : List ℕ) → IsUpTo n before → R
 unfolding octets_at
 named-item top n before numbers up rises later =
     let all : List ℕ = before ++ n ∷ numbers in
-    let own : blp_of all n ≡ blp_of numbers n = blp_of-after n before (n ∷ numbers) up ∙ blp_of-before n n numbers (omega arith) in
+    let own : blp_of all n ≡ blp_of numbers n =
+        blp_of-after n before (n ∷ numbers) up ∙ blp_of-before n n numbers (omega arith) in
     let fits = blp_of-below top n numbers rises in
-    numbers_named-item (n % 65536) (blp_of all n) (flat_map (item_octets all) (later_firsts n numbers)) (omega arith) (omega (arith, own, fits))
-    ∙ ap (λ (k : ℕ). item_numbers (n % 65536) k ++ numbers_named (flat_map (item_octets all) (later_firsts n numbers))) own
-    ∙ ap (λ (x : List ℕ). x ++ numbers_named (flat_map (item_octets all) (later_firsts n numbers))) (item_numbers-are top n numbers rises)
+    numbers_named-item (n % 65536) (blp_of all n) (flat_map (item_octets all) (later_firsts n numbers)) (omega arith)
+    (omega (arith, own, fits))
+    ∙ ap (λ (k : ℕ). item_numbers (n % 65536) k ++ numbers_named
+    (flat_map (item_octets all) (later_firsts n numbers))) own
+    ∙ ap (λ (x : List ℕ). x ++ numbers_named (flat_map (item_octets all) (later_firsts n numbers)))
+    (item_numbers-are top n numbers rises)
     ∙ ap (λ (x : List ℕ). wire (n ∷ numbers_in_reach numbers n) ++ x) later
-    ∙ ap (λ (x : List ℕ). n % 65536 ∷ x) (sym (map-append (λ (m : ℕ). m % 65536) (numbers_in_reach numbers n) (beyond n numbers)) ∙ ap wire (both top n n numbers (omega arith) rises))
+    ∙ ap (λ (x : List ℕ). n % 65536 ∷ x)
+    (sym (map-append (λ (m : ℕ). m % 65536) (numbers_in_reach numbers n) (beyond n numbers))
+    ∙ ap wire (both top n n numbers (omega arith) rises))
 
 -- the items after one that begins with first
-named-later : (top first p : ℕ) (before numbers : List ℕ) → IsUpTo p before → RisesTo top p numbers → numbers_named (octets_at (before ++ numbers) (later_firsts first numbers)) ≡ wire (beyond first numbers)
+named-later : (top first p : ℕ) (before numbers : List ℕ) → IsUpTo p before → RisesTo top p numbers →
+    numbers_named (octets_at (before ++ numbers) (later_firsts first numbers)) ≡ wire (beyond first numbers)
 named-later top first p before [] up rises = nothing_named first (before ++ [])
 named-later top first p before (n ∷ numbers) up rises =
     let next : IsUpTo n (before ++ n ∷ []) = IsUpTo-more p n before (omega (arith, rises.0)) up in
     let whole : (before ++ n ∷ []) ++ numbers ≡ before ++ n ∷ numbers = append_assoc before (n ∷ []) numbers in
     elim (cases_lt (first + 16) n) [
       | inl far ↦
-          let rest = ap (λ (x : List ℕ). numbers_named (octets_at x (later_firsts n numbers))) (sym whole) ∙ named-later top n n (before ++ n ∷ []) numbers next rises.1 in
-          rw (lt-leb n (first + 16) far) (named-item top n before numbers (IsUpTo-raise p n before (omega (arith, rises.0)) up) rises.1 rest)
+          let rest = ap (λ (x : List ℕ). numbers_named (octets_at x (later_firsts n numbers))) (sym whole)
+              ∙ named-later top n n (before ++ n ∷ []) numbers next rises.1 in
+          rw (lt-leb n (first + 16) far)
+          (named-item top n before numbers (IsUpTo-raise p n before (omega (arith, rises.0)) up) rises.1 rest)
           ∙ sym (ap wire (beyond-far top first (first + 16) (n ∷ numbers) (omega arith) (far, rises.1)))
       | inr near ↦
-          rw (le-leb n (first + 16) near) (ap (λ (x : List ℕ). numbers_named (octets_at x (later_firsts first numbers))) (sym whole) ∙ named-later top first n (before ++ n ∷ []) numbers next rises.1)
+          rw (le-leb n (first + 16) near)
+          (ap (λ (x : List ℕ). numbers_named (octets_at x (later_firsts first numbers))) (sym whole)
+          ∙ named-later top first n (before ++ n ∷ []) numbers next rises.1)
           ∙ sym (ap wire (beyond-near first n numbers near))
     ]
 
@@ -203,25 +242,32 @@ pub record AreForOne (numbers : List ℕ) : Type 0 where
 
 rise : (first : ℕ) (later : List ℕ) → AreForOne (first ∷ later) → RisesTo (first + NACK_SPAN) first later
 rise first later are =
-    rises_to (first + NACK_SPAN) first later are.rising (subst (λ (k : ℕ). slice_index (first ∷ later) k ≤ first + NACK_SPAN) (let k : suc (length later) - 1 ≡ length later = omega arith in k) are.near)
+    rises_to (first + NACK_SPAN) first later are.rising
+    (subst (λ (k : ℕ). slice_index (first ∷ later) k ≤ first + NACK_SPAN)
+    (let k : suc (length later) - 1 ≡ length later = omega arith in k) are.near)
 
 -- the items of numbers name just them
-pub named : (numbers : List ℕ) → AreForOne numbers → numbers_named (items_octets numbers) ≡ map (λ n. n % 65536) numbers
+pub named : (numbers : List ℕ) → AreForOne numbers →
+    numbers_named (items_octets numbers) ≡ map (λ n. n % 65536) numbers
 unfolding octets_at
 named [] are = refl
 named (first ∷ later) are =
     let rises = rise first later are in
-    named-item (first + NACK_SPAN) first [] later tt rises (named-later (first + NACK_SPAN) first first (first ∷ []) later (omega arith, tt) rises)
+    named-item (first + NACK_SPAN) first [] later tt rises
+    (named-later (first + NACK_SPAN) first first (first ∷ []) later (omega arith, tt) rises)
 
 -- ---- the octets of feedback are one packet
 
 -- items lie at least 17 apart
-later_firsts-few : (top first : ℕ) (numbers : List ℕ) → RisesTo top first numbers → 17 * length (later_firsts first numbers) + first ≤ top
+later_firsts-few : (top first : ℕ) (numbers : List ℕ) → RisesTo top first numbers →
+    17 * length (later_firsts first numbers) + first ≤ top
 later_firsts-few top first [] rises = omega (arith, rises)
 later_firsts-few top first (n ∷ numbers) rises =
     elim (cases_lt (first + 16) n) [
-      | inl far ↦ let rest = later_firsts-few top n numbers rises.1 in rw (lt-leb n (first + 16) far) (omega (arith, rest))
-      | inr near ↦ rw (le-leb n (first + 16) near) (later_firsts-few top first numbers (RisesTo-lower top n first numbers (omega (arith, rises.0)) rises.1))
+      | inl far ↦ let rest =
+          later_firsts-few top n numbers rises.1 in rw (lt-leb n (first + 16) far) (omega (arith, rest))
+      | inr near ↦ rw (le-leb n (first + 16) near)
+          (later_firsts-few top first numbers (RisesTo-lower top n first numbers (omega (arith, rises.0)) rises.1))
     ]
 
 firsts-few : (numbers : List ℕ) → AreForOne numbers → length (firsts numbers) ≤ 121
@@ -236,7 +282,8 @@ length-items numbers (first ∷ firsts) = let rest = length-items numbers firsts
 -- what is a packet is read to its end
 read_as : (octets : List ℕ) (says : Message) → IsPacket octets says → IsReadAs octets says
 read_as octets says is =
-    let reads = subst (λ (x : List ℕ). Reads x (length octets) says) (append-nil octets) (reads-packet octets [] says is) in
+    let reads =
+        subst (λ (x : List ℕ). Reads x (length octets) says) (append-nil octets) (reads-packet octets [] says is) in
     record {
       packet = is;
       no_fault = reads.no_fault;
@@ -245,7 +292,8 @@ read_as octets says is =
       compound = record { spelled = sym (append-nil octets); each = (is, tt) };
     }
 
-pub nack_reads : (from media : ℕ) (numbers : List ℕ) → from < 2 ^ 32 → media < 2 ^ 32 → AreForOne numbers → IsReadAs (nack_octets from media numbers) (Nack from media (items_octets numbers))
+pub nack_reads : (from media : ℕ) (numbers : List ℕ) → from < 2 ^ 32 → media < 2 ^ 32 → AreForOne numbers →
+    IsReadAs (nack_octets from media numbers) (Nack from media (items_octets numbers))
 nack_reads from media numbers from_fits media_fits are =
     let few = firsts-few numbers are in
     let long = length-items numbers (firsts numbers) in

@@ -21,7 +21,8 @@ Octets-take n octets fit i =
 
 -- a width whose numbers are spelled by octets, and read again
 pub record IsWide (w : Width) (limit : ℕ) : Type 0 where
-  pub back : (octets : List ℕ) → length octets ≡ byte_len w → Octets octets → to_be_bytes w (from_be_bytes w octets) ≡ octets
+  pub back : (octets : List ℕ) → length octets ≡ byte_len w → Octets octets →
+      to_be_bytes w (from_be_bytes w octets) ≡ octets
   pub below : (octets : List ℕ) → Octets octets → from_be_bytes w octets < limit
 
 pub wide32 : IsWide w32 (2 ^ 32)
@@ -37,17 +38,27 @@ wide64 = record {
 }
 
 -- the octets from a place on are those of the number there, and the octets after it
-pub drop-number : (w : Width) (limit : ℕ) (wide : IsWide w limit) (i : ℕ) (octets : List ℕ) → Octets octets → i + byte_len w ≤ length octets → drop i octets ≡ to_be_bytes w (from_be_bytes w (take (byte_len w) (drop i octets))) ++ drop (i + byte_len w) octets
+pub drop-number : (w : Width) (limit : ℕ) (wide : IsWide w limit) (i : ℕ) (octets : List ℕ) → Octets octets →
+    i + byte_len w ≤ length octets →
+    drop i octets ≡ to_be_bytes w (from_be_bytes w (take (byte_len w) (drop i octets))) ++ drop
+    (i + byte_len w) octets
 drop-number w limit wide i octets fit room =
     let from_i = drop i octets in
-    let cut : length (take (byte_len w) from_i) ≡ byte_len w = omega (arith, length-take (byte_len w) from_i, length-drop i octets) in
-    let front = wide.back (take (byte_len w) from_i) cut (Octets-take (byte_len w) from_i (Octets-drop i octets fit)) in
+    let cut : length (take (byte_len w) from_i) ≡ byte_len w =
+        omega (arith, length-take (byte_len w) from_i, length-drop i octets) in
+    let front =
+        wide.back (take (byte_len w) from_i) cut (Octets-take (byte_len w) from_i (Octets-drop i octets fit)) in
     let behind = drop-drop (byte_len w) i octets in
-    sym (take-append-drop (byte_len w) from_i) ∙ ap (λ (front : List ℕ). front ++ drop (byte_len w) from_i) (sym front) ∙ ap (λ (behind : List ℕ). to_be_bytes w (from_be_bytes w (take (byte_len w) from_i)) ++ behind) behind
+    sym (take-append-drop (byte_len w) from_i)
+    ∙ ap (λ (front : List ℕ). front ++ drop (byte_len w) from_i) (sym front)
+    ∙ ap (λ (behind : List ℕ). to_be_bytes w (from_be_bytes w (take (byte_len w) from_i)) ++ behind) behind
 
 -- and the number fits
-pub number-below : (w : Width) (limit : ℕ) (wide : IsWide w limit) (i : ℕ) (octets : List ℕ) → Octets octets → from_be_bytes w (take (byte_len w) (drop i octets)) < limit
-number-below w limit wide i octets fit = wide.below (take (byte_len w) (drop i octets)) (Octets-take (byte_len w) (drop i octets) (Octets-drop i octets fit))
+pub number-below : (w : Width) (limit : ℕ) (wide : IsWide w limit) (i : ℕ) (octets : List ℕ) → Octets octets →
+    from_be_bytes w (take (byte_len w) (drop i octets)) < limit
+number-below w limit wide i octets fit =
+    wide.below (take (byte_len w) (drop i octets))
+    (Octets-take (byte_len w) (drop i octets) (Octets-drop i octets fit))
 
 -- octets within the list are octets at every place
 pub all_octets : (octets : List ℕ) → All (λ octet. octet < 256) octets → Octets octets

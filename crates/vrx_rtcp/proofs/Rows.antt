@@ -29,7 +29,8 @@ pub out_of_reach : nack_octets 11 10 (65538 ∷ 65555 ∷ []) ≡ nack 4 (0 ∷ 
 out_of_reach = refl
 
 -- 46 numbers, one after another
-pub many : nack_octets 11 10 (range_with_len 65538 46) ≡ nack 5 (0 ∷ 2 ∷ 255 ∷ 255 ∷ 0 ∷ 19 ∷ 255 ∷ 255 ∷ 0 ∷ 36 ∷ 7 ∷ 255 ∷ [])
+pub many : nack_octets 11 10 (range_with_len 65538 46) ≡ nack 5
+    (0 ∷ 2 ∷ 255 ∷ 255 ∷ 0 ∷ 19 ∷ 255 ∷ 255 ∷ 0 ∷ 36 ∷ 7 ∷ 255 ∷ [])
 many = refl
 
 -- PID is 65,535, and the next number is 0

@@ -3,7 +3,7 @@ use Rattle.std.specs.Prelude.{ℕ, ◌+◌, ◌*◌, ◌%◌, ◌==◌, nat_lt, 
 use Rattle.vrx_rtcp.specs.declared.fault.RtcpFaultKind.{RtcpFaultKind}
 use Rattle.vrx_rtcp.specs.declared.fault.RtcpFaultKind.TheVariants.{Short, Version, PastEnd, Padding, Body}
 use Rattle.vrx_rtcp.specs.declared.types.TheConstants.{SR, RR, BYE, RTPFB, PSFB}
-use Rattle.vrx_rtcp.specs.Field.{version, is_padded, count, kind, size, last, unpadded}
+use Rattle.vrx_rtcp.specs.Field.{version, is_padded, count, kind, size, last, unpadded_size}
 
 -- fewer octets remain than a header has (RFC 3550 6.4.1)
 abbrev pub is_short : List ℕ → Bool
@@ -36,7 +36,7 @@ least kind count =
 
 -- the body is shorter than that
 abbrev pub lacks_body : List ℕ → Bool
-lacks_body octets = nat_lt (unpadded octets) (least (kind octets) (count octets))
+lacks_body octets = nat_lt (unpadded_size octets) (least (kind octets) (count octets))
 
 -- the first of the five that holds, if one does
 unfoldable pub first_fault : List ℕ → Option RtcpFaultKind

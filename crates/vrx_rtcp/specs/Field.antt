@@ -40,12 +40,12 @@ abbrev pub padding : List ℕ → ℕ
 padding octets = if is_padded octets then last octets else 0
 
 -- how many octets the packet has without its padding
-abbrev pub unpadded : List ℕ → ℕ
-unpadded octets = size octets - padding octets
+abbrev pub unpadded_size : List ℕ → ℕ
+unpadded_size octets = size octets - padding octets
 
 -- what lies between the header's four octets and the padding
 abbrev pub content : List ℕ → List ℕ
-content octets = take (unpadded octets - 4) (drop 4 octets)
+content octets = take (unpadded_size octets - 4) (drop 4 octets)
 
 -- what a packet with this count or format, this kind and this content says
 unfoldable pub message_of : ℕ → ℕ → List ℕ → Message

@@ -8,7 +8,7 @@ use Rattle.vrx_rtcp.specs.Packet.{Message, Nack, Pli, IsPacket, BeginsWithPacket
 use Rattle.vrx_rtcp.specs.Fault.{first_fault}
 use Rattle.vrx_rtcp.specs.Feedback.{nack_octets, pli_octets, items_octets, numbers_named}
 use Rattle.vrx_rtcp.specs.Field.{message, size}
-use Rattle.vrx_rtcp.specs.Compound.{Spelled, IsCompound, HasFault, is_compound}
+use Rattle.vrx_rtcp.specs.Compound.{SpelledPacket, IsCompound, HasFault, is_compound}
 
 -- octets begin with one packet at most, and it says one thing
 abbrev pub BeginsWithOne : Type 0
@@ -20,16 +20,18 @@ HasNoFault = (octets : List ℕ) → BeginsWithPacket octets → first_fault oct
 
 -- octets that have no fault begin with a packet
 abbrev pub HasPacket : Type 0
-HasPacket = (octets : List ℕ) → All (λ octet. octet < 256) octets → first_fault octets ≡ None → BeginsWithPacket octets
+HasPacket =
+    (octets : List ℕ) → All (λ octet. octet < 256) octets → first_fault octets ≡ None → BeginsWithPacket octets
 
 -- a datagram is a compound in one way at most
 abbrev pub IsOneCompound : Type 0
-IsOneCompound = (datagram : List ℕ) (ps qs : List Spelled) → IsCompound datagram ps → IsCompound datagram qs → ps ≡ qs
+IsOneCompound =
+    (datagram : List ℕ) (ps qs : List SpelledPacket) → IsCompound datagram ps → IsCompound datagram qs → ps ≡ qs
 
 -- a datagram is a compound, or it has a first fault
 abbrev pub HasAnswer : Type 0
 HasAnswer = (datagram : List ℕ) → All (λ octet. octet < 256) datagram →
-    ((packets : List Spelled) × IsCompound datagram packets) ⊎ ((fault : RtcpFault) × HasFault datagram fault)
+    ((packets : List SpelledPacket) × IsCompound datagram packets) ⊎ ((fault : RtcpFault) × HasFault datagram fault)
 
 -- a datagram has one first fault at most
 abbrev pub HasOneFault : Type 0
@@ -37,12 +39,13 @@ HasOneFault = (datagram : List ℕ) (e f : RtcpFault) → HasFault datagram e �
 
 -- and none if it is a compound
 abbrev pub HasNotBoth : Type 0
-HasNotBoth = (datagram : List ℕ) (packets : List Spelled) (fault : RtcpFault) → IsCompound datagram packets → HasFault datagram fault → ⊥
+HasNotBoth = (datagram : List ℕ) (packets : List SpelledPacket) (fault : RtcpFault) → IsCompound datagram packets →
+    HasFault datagram fault → ⊥
 
 -- the test passes exactly if some packets are the compound
 abbrev pub PassesCompounds : Type 0
 PassesCompounds = (datagram : List ℕ) → All (λ octet. octet < 256) datagram →
-    (is_compound datagram ≡ true) ↔ ((packets : List Spelled) × IsCompound datagram packets)
+    (is_compound datagram ≡ true) ↔ ((packets : List SpelledPacket) × IsCompound datagram packets)
 
 -- and it fails exactly if some fault is the first
 abbrev pub FailsFaults : Type 0

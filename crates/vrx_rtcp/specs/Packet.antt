@@ -103,7 +103,8 @@ abbrev pub Means : ℕ → ℕ → List ℕ → Message → Type 0
 Means count kind content (Sender s) = (kind ≡ SR) × IsSenderReport count content s
 Means count kind content (Report ssrc blocks) = (kind ≡ RR) × IsReceiverReport count content ssrc blocks
 Means count kind content (Bye sources) = (kind ≡ BYE) × IsBye count content sources
-Means count kind content (Nack sender media items) = (kind ≡ RTPFB) × (count ≡ FMT_NACK) × IsFeedback content sender media items
+Means count kind content (Nack sender media items) =
+    (kind ≡ RTPFB) × (count ≡ FMT_NACK) × IsFeedback content sender media items
 Means count kind content (Pli sender media) =
     (kind ≡ PSFB) × (count ≡ FMT_PLI) × (control : List ℕ) × IsFeedback content sender media control
 Means count kind content (Other other) = (kind ≡ other) × IsOther count kind content

@@ -30,8 +30,8 @@ view (body.Pli p) = Pli p.sender p.media
 view (body.Other kind) = Other kind
 
 -- a fault of the packet at an offset
-abbrev pub told : ℕ → RtcpFaultKind → RtcpFault
-told at kind = record { kind = kind; at = at }
+abbrev pub fault_at : ℕ → RtcpFaultKind → RtcpFault
+fault_at at kind = record { kind = kind; at = at }
 
 -- the item of these numbers that begins with first
 abbrev pub item_of : List ℕ → ℕ → Item

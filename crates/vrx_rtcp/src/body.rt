@@ -6,9 +6,10 @@ ghost use Rattle.vrx_rtcp.specs.Fault.{least};
 ghost use Rattle.vrx_rtcp.specs.Field.{message_of, u32_at as u32_there, u64_at as u64_there};
 ghost use Rattle.vrx_rtcp.specs.View.{view, sender_fields};
 
-use crate::field::{from, u32_at, u64_at, upto};
+use crate::field::{u32_at, u64_at};
 use crate::packet::{Body, Bye, Nack, Pli, ReceiverReport, SenderReport};
 use crate::types::{BYE, FMT_NACK, FMT_PLI, PSFB, RR, RTPFB, SR};
+use vrx_num::slices::{from, upto};
 
 /// The sender report with `count` blocks.
 fn sender_report(count: usize, content: &[u8]) -> SenderReport<'_>

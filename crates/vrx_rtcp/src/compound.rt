@@ -1,7 +1,7 @@
 //! From a datagram to its packets.
 
 ghost use Rattle.std.specs.Prelude.{◌≡◌, ℕ, ◌≤◌, ◌↔◌, true, List, length, Ok, Err, IsOk, IfOk, IfErr};
-ghost use Rattle.vrx_rtcp.specs.Compound.{Spelled, IsCompound, HasFault, is_compound};
+ghost use Rattle.vrx_rtcp.specs.Compound.{SpelledPacket, IsCompound, HasFault, is_compound};
 ghost use Rattle.vrx_rtcp.specs.declared.fault.RtcpFault.{RtcpFault};
 
 use crate::fault::RtcpFault;
@@ -19,8 +19,8 @@ pub fn read_compound(bytes: &[u8]) -> Result<usize, RtcpFault>
 
     // The datagram is so many packets; and if it is packets, their number is answered.
     ensures compound { IfOk result (λ n.
-        (packets : List Spelled) × IsCompound bytes.now packets × (length packets ≡ n)) }
-    ensures only { (packets : List Spelled) → IsCompound bytes.now packets → result ≡ Ok (length packets) }
+        (packets : List SpelledPacket) × IsCompound bytes.now packets × (length packets ≡ n)) }
+    ensures only { (packets : List SpelledPacket) → IsCompound bytes.now packets → result ≡ Ok (length packets) }
 
     // The fault is the first one; and if there is a first one, it is answered.
     ensures fault { IfErr result (λ e. HasFault bytes.now e) }

@@ -1,6 +1,6 @@
 //! The fields of the packet at the front of some octets.
 
-ghost use Rattle.std.specs.Prelude.{◌≡◌, ◌+◌, ◌≤◌, length, take, drop};
+ghost use Rattle.std.specs.Prelude.{◌≡◌, ◌+◌, ◌≤◌, length};
 ghost use Rattle.vrx_rtcp.specs.Field.{u32_at as u32_there, u64_at as u64_there};
 
 /// The number of 32 bits at `i`.
@@ -26,20 +26,4 @@ pub(crate) fn u64_at(octets: &[u8], i: usize) -> u64
         octets[i + 6],
         octets[i + 7],
     ])
-}
-
-/// The octets from `n` on.
-pub(crate) fn from(octets: &[u8], n: usize) -> &[u8]
-    requires { n ≤ length octets.now }
-    ensures { result.now ≡ drop n octets.now }
-{
-    octets.split_at(n).1
-}
-
-/// The first `n` octets.
-pub(crate) fn upto(octets: &[u8], n: usize) -> &[u8]
-    requires { n ≤ length octets.now }
-    ensures { result.now ≡ take n octets.now }
-{
-    octets.split_at(n).0
 }

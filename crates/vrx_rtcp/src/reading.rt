@@ -4,15 +4,15 @@ ghost use Rattle.std.specs.Prelude.{◌≡◌, ℕ, ◌+◌, ◌-◌, ◌*◌, �
 ghost use Rattle.std.specs.Option.{option_map};
 ghost use Rattle.std.specs.Result.{result_err};
 ghost use Rattle.vrx_rtcp.specs.Fault.{first_fault as first_fault_there, least as least_there, is_badly_padded, lacks_body};
-ghost use Rattle.vrx_rtcp.specs.Field.{size as size_there, message, is_padded as is_padded_there, unpadded as unpadded_there};
+ghost use Rattle.vrx_rtcp.specs.Field.{size as size_there, message, is_padded as is_padded_there, unpadded_size as unpadded_there};
 ghost use Rattle.vrx_rtcp.specs.Packet.{Message, IsPacket};
-ghost use Rattle.vrx_rtcp.specs.View.{view, told};
+ghost use Rattle.vrx_rtcp.specs.View.{view, fault_at};
 
 use crate::body::body_of;
 use crate::fault::{RtcpFault, RtcpFaultKind};
-use crate::field::{from, upto};
 use crate::packet::{Body, Packet};
 use crate::types::{BYE, PSFB, RR, RTPFB, SR};
+use vrx_num::slices::{from, upto};
 
 /// How many octets a header has.
 const HEADER: usize = 4;
@@ -28,7 +28,7 @@ fn size(rest: &[u8]) -> usize
 }
 
 /// How many octets the packet has without its padding, or none if the padding is wrong.
-fn unpadded(rest: &[u8], size: usize) -> Option<usize>
+fn unpadded_size(rest: &[u8], size: usize) -> Option<usize>
     requires header { 4 ≤ size }
     requires size { size ≡ size_there rest.now }
     requires within { size ≤ length rest.now }
@@ -68,7 +68,7 @@ fn body_in(rest: &[u8], size: usize) -> Result<Body<'_>, RtcpFaultKind>
         else if lacks_body rest.now then Some RtcpFaultKind.Body else None) }
     ensures body { IfOk result (λ body. view body ≡ message rest.now) }
 {
-    let Some(unpadded) = unpadded(rest, size) else {
+    let Some(unpadded) = unpadded_size(rest, size) else {
         return Err(RtcpFaultKind::Padding);
     };
     let count = rest[0] % 32;
@@ -112,7 +112,7 @@ pub fn read_packet(bytes: &[u8], at: usize) -> Result<Packet<'_>, RtcpFault>
 
     // When it is refused, and with which fault; and so, when it isn't.
     ensures fault { result_err result ≡
-        option_map (λ kind. told at kind) (first_fault_there (drop at bytes.now)) }
+        option_map (λ kind. fault_at at kind) (first_fault_there (drop at bytes.now)) }
 
     // What is read is a packet, from `at` to what lies before the next, and within the octets.
     ensures packet { IfOk result (λ p. IsPacket (take (p.next - at) (drop at bytes.now)) (view p.body)) }

@@ -1,12 +1,15 @@
 -- Rows of the reading, which compute.
 use Rattle.std.proofs.Common.{◌≡◌, ℕ, true, false, List, [], ◌∷◌, None, Some, Ok, refl, arith}
 use Rattle.vrx_rtp.specs.declared.fault.RtpFaultKind.TheVariants.{Short, Version, CsrcPastEnd, ExtensionPastEnd, PaddingPastEnd}
-use Rattle.vrx_rtp.specs.Packet.{Packet, IsPacket, spelled}
+use Rattle.vrx_rtp.specs.Packet.{Packet, IsPacket, octets_of}
 use Rattle.vrx_rtp.specs.Faults.{fault, first_fault}
 use Rattle.vrx_rtp.specs.Reading.{reading, read}
 
 -- the datagram 80e00001000000000000000a1000aa, which is plain
-marked_packet : read (0x80 ∷ 0xe0 ∷ 0x00 ∷ 0x01 ∷ 0x00 ∷ 0x00 ∷ 0x00 ∷ 0x00 ∷ 0x00 ∷ 0x00 ∷ 0x00 ∷ 0x0a ∷ 0x10 ∷ 0x00 ∷ 0xaa ∷ []) ≡ Some (record { marker = true; pt = 96; seq = 1; ts = 0; ssrc = 10; csrc = []; extension = None; payload = 16 ∷ 0 ∷ 170 ∷ []; padding = 0 })
+marked_packet : read (0x80 ∷ 0xe0 ∷ 0x00 ∷ 0x01 ∷ 0x00 ∷ 0x00 ∷ 0x00 ∷ 0x00 ∷ 0x00 ∷ 0x00 ∷ 0x00 ∷ 0x0a ∷ 0x10 ∷ 0x00
+    ∷ 0xaa ∷ []) ≡ Some (record {
+    marker = true; pt = 96; seq = 1; ts = 0; ssrc = 10; csrc = []; extension = None; payload =
+    16 ∷ 0 ∷ 170 ∷ []; padding = 0 })
 marked_packet = refl
 
 -- one contributing source, an extension of one word, one octet of payload and three padding octets
@@ -25,9 +28,10 @@ whole = record {
 
 -- the octets b16f0102030405060708090a0b0c0d0ebede000151aa0000f0000003
 abbrev whole_octets : List ℕ
-whole_octets = 0xb1 ∷ 0x6f ∷ 1 ∷ 2 ∷ 3 ∷ 4 ∷ 5 ∷ 6 ∷ 7 ∷ 8 ∷ 9 ∷ 0x0a ∷ 0x0b ∷ 0x0c ∷ 0x0d ∷ 0x0e ∷ 0xbe ∷ 0xde ∷ 0 ∷ 1 ∷ 0x51 ∷ 0xaa ∷ 0 ∷ 0 ∷ 0xf0 ∷ 0 ∷ 0 ∷ 3 ∷ []
+whole_octets = 0xb1 ∷ 0x6f ∷ 1 ∷ 2 ∷ 3 ∷ 4 ∷ 5 ∷ 6 ∷ 7 ∷ 8 ∷ 9 ∷ 0x0a ∷ 0x0b ∷ 0x0c ∷ 0x0d ∷ 0x0e ∷ 0xbe ∷ 0xde ∷ 0
+    ∷ 1 ∷ 0x51 ∷ 0xaa ∷ 0 ∷ 0 ∷ 0xf0 ∷ 0 ∷ 0 ∷ 3 ∷ []
 
-whole_spelled : spelled whole ≡ whole_octets
+whole_spelled : octets_of whole ≡ whole_octets
 whole_spelled = refl
 
 whole_read : reading whole_octets ≡ Ok whole
@@ -58,13 +62,16 @@ too_short = refl
 other_version : first_fault (0x40 ∷ 0x60 ∷ 0 ∷ 1 ∷ 0 ∷ 0 ∷ 0 ∷ 0 ∷ 0 ∷ 0 ∷ 0 ∷ 0x0a ∷ []) ≡ Some (fault Version 0)
 other_version = refl
 
-sources_past_end : first_fault (0x8f ∷ 0x60 ∷ 0 ∷ 1 ∷ 0 ∷ 0 ∷ 0 ∷ 0 ∷ 0 ∷ 0 ∷ 0 ∷ 0x0a ∷ []) ≡ Some (fault CsrcPastEnd 12)
+sources_past_end : first_fault (0x8f ∷ 0x60 ∷ 0 ∷ 1 ∷ 0 ∷ 0 ∷ 0 ∷ 0 ∷ 0 ∷ 0 ∷ 0 ∷ 0x0a ∷ []) ≡ Some
+    (fault CsrcPastEnd 12)
 sources_past_end = refl
 
-extension_past_end : first_fault (0x90 ∷ 0x60 ∷ 0 ∷ 1 ∷ 0 ∷ 0 ∷ 0 ∷ 0 ∷ 0 ∷ 0 ∷ 0 ∷ 0x0a ∷ 0xbe ∷ 0xde ∷ 0 ∷ 1 ∷ []) ≡ Some (fault ExtensionPastEnd 12)
+extension_past_end : first_fault (0x90 ∷ 0x60 ∷ 0 ∷ 1 ∷ 0 ∷ 0 ∷ 0 ∷ 0 ∷ 0 ∷ 0 ∷ 0 ∷ 0x0a ∷ 0xbe ∷ 0xde ∷ 0 ∷ 1 ∷ [])
+    ≡ Some (fault ExtensionPastEnd 12)
 extension_past_end = refl
 
-no_padding : first_fault (0xa0 ∷ 0x60 ∷ 0 ∷ 1 ∷ 0 ∷ 0 ∷ 0 ∷ 0 ∷ 0 ∷ 0 ∷ 0 ∷ 0x0a ∷ []) ≡ Some (fault PaddingPastEnd 11)
+no_padding : first_fault (0xa0 ∷ 0x60 ∷ 0 ∷ 1 ∷ 0 ∷ 0 ∷ 0 ∷ 0 ∷ 0 ∷ 0 ∷ 0 ∷ 0x0a ∷ []) ≡ Some
+    (fault PaddingPastEnd 11)
 no_padding = refl
 
 -- padding only: a0600001000000000000000a00000004

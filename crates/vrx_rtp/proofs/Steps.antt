@@ -4,8 +4,10 @@ use Rattle.std.proofs.lemmas.Bool.{cases_lt, lt-ltb, le-ltb}
 use Rattle.std.proofs.lemmas.List.{get_or_past, get_or-drop}
 use Rattle.vrx_rtp.specs.declared.fault.RtpFault.{RtpFault}
 use Rattle.vrx_rtp.specs.declared.reading.Header.{Header}
-use Rattle.vrx_rtp.specs.Packet.{AreOctets, HeaderExtension, Packet}
-use Rattle.vrx_rtp.specs.Reading.{◌>>=◌, sources_at, extension_at, payload_at}
+use Rattle.vrx_rtp.specs.Packet.{HeaderExtension, Packet}
+use Rattle.vrx_num.specs.Octets.{AreOctets}
+use Rattle.vrx_rtp.specs.Reading.{sources_at, extension_at, payload_at}
+use Rattle.vrx_num.specs.ResultChain.{◌>>=◌}
 
 -- the fault of a reading, if it has one
 abbrev pub fault_of : {A : Type 0} → Result A RtpFault → Option RtpFault
@@ -17,7 +19,8 @@ abbrev pub done : {A : Type 0} → A → Result A RtpFault
 done x = Ok x
 
 -- the value of a step that met no fault
-pub bind_ok : {A B : Type 0} (r : Result A RtpFault) (f : A → Result B RtpFault) (y : B) → (r >>= f) ≡ Ok y → (x : A) × (r ≡ Ok x) × (f x ≡ Ok y)
+pub bind_ok : {A B : Type 0} (r : Result A RtpFault) (f : A → Result B RtpFault) (y : B) → (r >>= f) ≡ Ok y →
+    (x : A) × (r ≡ Ok x) × (f x ≡ Ok y)
 bind_ok (Ok x) f y e = (x, refl, e)
 bind_ok (Err d) f y e = absurd cc
 
@@ -75,11 +78,13 @@ made header csrc extension ended = record {
 
 -- what is read after the extension, of so many octets in all
 abbrev pub behind_extension : ℕ → Header → List ℕ → Option HeaderExtension × List ℕ → Result Packet RtpFault
-behind_extension total header csrc found = payload_at header.padded (total - 1) found.1 >>= λ ended. Ok (made header csrc found.0 ended)
+behind_extension total header csrc found =
+    payload_at header.padded (total - 1) found.1 >>= λ ended. Ok (made header csrc found.0 ended)
 
 -- what is read after the sources
 abbrev pub behind_sources : ℕ → Header → List ℕ × List ℕ → Result Packet RtpFault
-behind_sources total header sources = extension_at header.extended (12 + length sources.0) sources.1 >>= behind_extension total header sources.0
+behind_sources total header sources =
+    extension_at header.extended (12 + length sources.0) sources.1 >>= behind_extension total header sources.0
 
 -- what is read after the twelve octets
 abbrev pub behind_header : ℕ → Header × List ℕ → Result Packet RtpFault

@@ -19,7 +19,7 @@
 -- |                                               +-+-+-+-+-+-+-+-+
 -- |               filler          |               |    padding    |   if P = 1
 -- +-+-+-+-+-+-+-+-+-+-+-+-+-+-+-+-+-+-+-+-+-+-+-+-+-+-+-+-+-+-+-+-+
-use Rattle.std.specs.Prelude.{◌≡◌, ℕ, zero, suc, ◌+◌, ◌-◌, ◌/◌, ◌%◌, ◌^◌, ◌<◌, ◌≤◌, Bool, ◌==◌, if◌then◌else◌, List, [], ◌∷◌, ◌++◌, length, replicate, All, Option, None, Some, is_some, IfSome}
+use Rattle.std.specs.Prelude.{◌≡◌, ℕ, zero, suc, ◌+◌, ◌-◌, ◌/◌, ◌%◌, ◌^◌, ◌<◌, ◌≤◌, Bool, ◌==◌, if◌then◌else◌, List, [], ◌∷◌, ◌++◌, length, replicate, Option, None, Some, is_some, IfSome}
 use Rattle.std.specs.Int.{w16, w32, to_be_bytes}
 
 -- a header extension: the 16 bits that its profile defines, and its words, four octets each (RFC 3550 5.3.1)
@@ -69,8 +69,8 @@ padding_octets filler zero = []
 padding_octets filler (suc n) = filler ++ suc n ∷ []
 
 -- the octets of a packet, with this filler
-abbrev pub spelled_with : List ℕ → Packet → List ℕ
-spelled_with filler p =
+abbrev pub octets_with : List ℕ → Packet → List ℕ
+octets_with filler p =
     fixed_header p ++ p.csrc ++ extension_octets p.extension ++ p.payload ++ padding_octets filler p.padding
 
 -- the octets are whole 32-bit words, and at most so many octets
@@ -99,13 +99,9 @@ pub record IsPacket (octets : List ℕ) (p : Packet) : Type 0 where
   -- the padding octets but the last
   pub filler : List ℕ
   pub filled : length filler ≡ p.padding - 1
-  pub spelled : octets ≡ spelled_with filler p
+  pub spelled : octets ≡ octets_with filler p
   pub fits : Fits p
 
 -- the octets of a packet in which each padding octet but the last is 0
-abbrev pub spelled : Packet → List ℕ
-spelled p = spelled_with (replicate (p.padding - 1) 0) p
-
--- each is an octet
-abbrev pub AreOctets : List ℕ → Type 0
-AreOctets octets = All (λ octet. octet < 256) octets
+abbrev pub octets_of : Packet → List ℕ
+octets_of p = octets_with (replicate (p.padding - 1) 0) p

@@ -7,12 +7,7 @@ use Rattle.vrx_rtp.specs.declared.fault.RtpFaultKind.TheVariants.{Short, Version
 use Rattle.vrx_rtp.specs.declared.reading.Header.{Header}
 use Rattle.vrx_rtp.specs.Packet.{HeaderExtension, Packet}
 use Rattle.vrx_rtp.specs.Faults.{fault}
-
--- what comes next, if there was no fault
-infixl 10 ◌>>=◌
-abbrev pub ◌>>=◌ : {A B : Type 0} → Result A RtpFault → (A → Result B RtpFault) → Result B RtpFault
-(Ok x) >>= f = f x
-(Err e) >>= f = Err e
+use Rattle.vrx_num.specs.ResultChain.{◌>>=◌}
 
 -- the twelve octets that each header has, and what is after them
 abbrev pub header_at : List ℕ → Result (Header × List ℕ) RtpFault
@@ -40,7 +35,8 @@ sources_at count octets =
 abbrev pub words_at : List ℕ → Option (HeaderExtension × List ℕ)
 words_at (profile1 ∷ profile0 ∷ count1 ∷ count0 ∷ octets) =
     let count : ℕ = 4 * from_be_bytes w16 (count1 ∷ count0 ∷ []) in
-    let extension : HeaderExtension = record { profile = from_be_bytes w16 (profile1 ∷ profile0 ∷ []); words = take count octets } in
+    let extension : HeaderExtension =
+        record { profile = from_be_bytes w16 (profile1 ∷ profile0 ∷ []); words = take count octets } in
     if nat_lt (length octets) count then None else Some (extension, drop count octets)
 words_at octets = None
 

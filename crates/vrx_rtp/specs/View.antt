@@ -25,10 +25,10 @@ view v = record {
 }
 
 -- what was read, seen so, or the fault
-abbrev pub seen : {X Y : Type 0} → (X → Y) → Result X RtpFault → Result Y RtpFault
-seen f (Ok x) = Ok (f x)
-seen f (Err e) = Err e
+abbrev pub result_by : {X Y : Type 0} → (X → Y) → Result X RtpFault → Result Y RtpFault
+result_by f (Ok x) = Ok (f x)
+result_by f (Err e) = Err e
 
 -- the packet that was read, or the fault
 abbrev pub view_result : Result RtpView RtpFault → Result Packet RtpFault
-view_result result = seen view result
+view_result result = result_by view result

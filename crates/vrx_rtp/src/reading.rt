@@ -6,7 +6,7 @@ ghost use Rattle.vrx_rtp.specs.declared.fault.RtpFault.{RtpFault};
 ghost use Rattle.vrx_rtp.specs.Faults.{first_fault};
 ghost use Rattle.vrx_rtp.specs.Packet.{Packet, IsPacket};
 ghost use Rattle.vrx_rtp.specs.Reading.{header_at, sources_at, words_at, extension_at, payload_at, reading};
-ghost use Rattle.vrx_rtp.specs.View.{view, view_extension, view_result, seen};
+ghost use Rattle.vrx_rtp.specs.View.{view, view_extension, view_result, result_by};
 
 use crate::fault::{RtpFault, RtpFaultKind};
 use crate::rtp_view::{Extension, RtpView};
@@ -32,7 +32,7 @@ pub(crate) struct Header {
 
 /// The twelve octets that each header has, and what is after them.
 fn header_of(datagram: &[u8]) -> Result<(Header, &[u8]), RtpFault>
-    ensures { seen (λ x. (x.0, x.1.now)) result ≡ header_at datagram.now }
+    ensures { result_by (λ x. (x.0, x.1.now)) result ≡ header_at datagram.now }
 {
     if datagram.len() < HEADER {
         return Err(RtpFault {
@@ -64,7 +64,7 @@ fn header_of(datagram: &[u8]) -> Result<(Header, &[u8]), RtpFault>
 
 /// So many contributing sources, and what is after them.
 fn sources_of(count: u8, octets: &[u8]) -> Result<(&[u8], &[u8]), RtpFault>
-    ensures { seen (λ x. (x.0.now, x.1.now)) result ≡ sources_at count octets.now }
+    ensures { result_by (λ x. (x.0.now, x.1.now)) result ≡ sources_at count octets.now }
 {
     let len = 4 * usize::from(count);
     if octets.len() < len {
@@ -98,7 +98,7 @@ fn extension_of(
     at: usize,
     octets: &[u8],
 ) -> Result<(Option<Extension<'_>>, &[u8]), RtpFault>
-    ensures { seen (λ x. (option_map view_extension x.0, x.1.now)) result ≡ extension_at extended at octets.now }
+    ensures { result_by (λ x. (option_map view_extension x.0, x.1.now)) result ≡ extension_at extended at octets.now }
 {
     if !extended {
         return Ok((None, octets));
@@ -114,7 +114,7 @@ fn extension_of(
 
 /// The payload, and how many padding octets follow it. The last octet is octet `at` of the datagram.
 fn payload_of(padded: bool, at: usize, octets: &[u8]) -> Result<(&[u8], u8), RtpFault>
-    ensures { seen (λ x. (x.0.now, x.1)) result ≡ payload_at padded at octets.now }
+    ensures { result_by (λ x. (x.0.now, x.1)) result ≡ payload_at padded at octets.now }
 {
     if !padded {
         return Ok((octets, 0));

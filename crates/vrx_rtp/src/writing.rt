@@ -2,7 +2,7 @@
 
 ghost use Rattle.std.specs.Prelude.{◌≡◌, ◌-◌, ◌^◌, ◌<◌, ◌≤◌, ◌++◌, replicate, Ok, IfOk, OnOk, IfSome};
 ghost use Rattle.std.specs.Option.{option_map};
-ghost use Rattle.vrx_rtp.specs.Packet.{IsPacket, Fits, AreWords, first_octet as first_octet_of, fixed_header as fixed_header_of, extension_octets, padding_octets, spelled};
+ghost use Rattle.vrx_rtp.specs.Packet.{IsPacket, Fits, AreWords, first_octet as first_octet_of, fixed_header as fixed_header_of, extension_octets, padding_octets, octets_of};
 ghost use Rattle.vrx_rtp.specs.Reading.{reading};
 ghost use Rattle.vrx_rtp.specs.View.{view, view_extension};
 
@@ -102,7 +102,7 @@ fn octets_of(alloc: Global, packet: &RtpView<'_>) -> Result<Vec<u8>, NoMemory>
     requires pt { packet.now.pt < 128 }
     requires csrc { AreWords 60 packet.now.csrc.now }
     requires extension { IfSome packet.now.extension (λ e. AreWords 262140 e.words.now) }
-    ensures spelled { IfOk result (λ datagram. datagram.items ≡ spelled (view packet.now)) }
+    ensures spelled { IfOk result (λ datagram. datagram.items ≡ octets_of (view packet.now)) }
     ensures fits { OnOk result (Fits (view packet.now)) }
 {
     let mut out = Vec::new(alloc);
@@ -120,7 +120,7 @@ pub fn write(alloc: Global, packet: &RtpView<'_>) -> Result<Vec<u8>, NoMemory>
     requires pt { packet.now.pt < 128 }
     requires csrc { AreWords 60 packet.now.csrc.now }
     requires extension { IfSome packet.now.extension (λ e. AreWords 262140 e.words.now) }
-    ensures spelled { IfOk result (λ datagram. datagram.items ≡ spelled (view packet.now)) }
+    ensures spelled { IfOk result (λ datagram. datagram.items ≡ octets_of (view packet.now)) }
     // It is the packet in the grammar, so reading it gives the packet again.
     ensures packet { IfOk result (λ datagram. IsPacket datagram.items (view packet.now)) }
     ensures again { IfOk result (λ datagram. reading datagram.items ≡ Ok (view packet.now)) }

@@ -16,7 +16,13 @@ abbrev pli : List ℕ
 pli = 0x81 ∷ 0xce ∷ 0 ∷ 2 ∷ 0 ∷ 0 ∷ 0 ∷ 0x0b ∷ 0 ∷ 0 ∷ 0 ∷ 0x0a ∷ []
 
 -- two repairs and both kinds of feedback
-pub repaired : text_of 9 (ToDatagram (record { what = Fec 70; repaired = 69 ∷ 65 ∷ []; feedback = record { nack = Some (record { items = nack }); pli = Some pli } })) ≡ codes "9 fec 70" ++ line_feed ++ codes "9 repaired 69" ++ line_feed ++ codes "9 repaired 65" ++ line_feed ++ codes "9 nack 81cd00030000000b0000000a00050000" ++ line_feed ++ codes "9 pli 81ce00020000000b0000000a" ++ line_feed
+pub repaired : text_of 9
+    (ToDatagram (record {
+    what = Fec 70; repaired = 69 ∷ 65 ∷ []; feedback =
+    record { nack = Some (record { items = nack }); pli = Some pli } })) ≡ codes "9 fec 70" ++ line_feed
+    ++ codes "9 repaired 69" ++ line_feed ++ codes "9 repaired 65" ++ line_feed
+    ++ codes "9 nack 81cd00030000000b0000000a00050000" ++ line_feed ++ codes "9 pli 81ce00020000000b0000000a"
+    ++ line_feed
 unfolding text_of digits encode_with
 repaired = refl
 
@@ -24,7 +30,8 @@ pub quiet_tick : text_of 10 (ToTick no_feedback) ≡ codes "10 tick" ++ line_fee
 unfolding text_of digits
 quiet_tick = refl
 
-pub tick_with_pli : text_of 10 (ToTick (record { nack = None; pli = Some pli })) ≡ codes "10 tick" ++ line_feed ++ codes "10 pli 81ce00020000000b0000000a" ++ line_feed
+pub tick_with_pli : text_of 10 (ToTick (record { nack = None; pli = Some pli })) ≡ codes "10 tick" ++ line_feed
+    ++ codes "10 pli 81ce00020000000b0000000a" ++ line_feed
 unfolding text_of digits encode_with
 tick_with_pli = refl
 

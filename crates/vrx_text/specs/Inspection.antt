@@ -16,10 +16,10 @@ use Rattle.vrx_rtcp.specs.declared.fault.RtcpFault.{RtcpFault}
 use Rattle.vrx_rtcp.specs.declared.fault.RtcpFaultKind.{RtcpFaultKind}
 use Rattle.vrx_rtcp.specs.declared.fault.RtcpFaultKind.TheVariants as rtcp_kind
 use Rattle.vrx_rtcp.specs.Packet.{Message, Sender, Report, Bye, Nack, Pli, Other}
-use Rattle.vrx_rtcp.specs.Compound.{Spelled, IsCompound, HasFault}
+use Rattle.vrx_rtcp.specs.Compound.{SpelledPacket, IsCompound, HasFault}
 use Rattle.vrx_rtcp.specs.Fault as rtcp_faults
 use Rattle.vrx_rtcp.specs.Field.{size, message}
-use Rattle.vrx_rtcp.specs.View.{told}
+use Rattle.vrx_rtcp.specs.View.{fault_at}
 use Rattle.vrx_text.specs.Transcript.{line_feed}
 
 -- ---- the lines
@@ -39,7 +39,8 @@ extension_text (Some e) = decimal (length e.words / 4)
 abbrev pub rtp_line : ℕ → rtp.Packet → List ℕ
 rtp_line k p =
     decimal k ++ codes " rtp pt=" ++ decimal p.pt ++ codes " seq=" ++ decimal p.seq
-    ++ codes " ts=" ++ decimal p.ts ++ codes " ssrc=" ++ encode_lower (to_be_bytes w32 p.ssrc) ++ codes " m=" ++ marker_text p.marker
+    ++ codes " ts=" ++ decimal p.ts ++ codes " ssrc=" ++ encode_lower (to_be_bytes w32 p.ssrc) ++ codes " m="
+    ++ marker_text p.marker
     ++ codes " csrc=" ++ decimal (length p.csrc / 4) ++ codes " ext=" ++ extension_text p.extension
     ++ codes " pad=" ++ decimal p.padding ++ codes " payload=" ++ decimal (length p.payload) ++ line_feed
 
@@ -53,7 +54,8 @@ rtp_kind_text rtp_kind.PaddingPastEnd = codes "PaddingPastEnd"
 
 -- K bad rtp KIND AT
 abbrev pub bad_rtp_line : ℕ → RtpFault → List ℕ
-bad_rtp_line k fault = decimal k ++ codes " bad rtp " ++ rtp_kind_text fault.kind ++ codes " " ++ decimal fault.at ++ line_feed
+bad_rtp_line k fault =
+    decimal k ++ codes " bad rtp " ++ rtp_kind_text fault.kind ++ codes " " ++ decimal fault.at ++ line_feed
 
 -- the word for what an RTCP packet says; another one's has its type after it
 abbrev pub message_word : Message → List ℕ
@@ -69,7 +71,7 @@ abbrev pub spaced_word : Message → List ℕ
 spaced_word says = codes " " ++ message_word says
 
 -- the words of packets, in order
-abbrev pub packet_words : List Spelled → List ℕ
+abbrev pub packet_words : List SpelledPacket → List ℕ
 packet_words packets = flat_map (λ p. spaced_word p.message) packets
 
 -- K rtcp, and the word of each packet
@@ -86,16 +88,21 @@ rtcp_kind_text rtcp_kind.Body = codes "Body"
 
 -- K bad rtcp KIND AT
 abbrev pub bad_rtcp_line : ℕ → RtcpFault → List ℕ
-bad_rtcp_line k fault = decimal k ++ codes " bad rtcp " ++ rtcp_kind_text fault.kind ++ codes " " ++ decimal fault.at ++ line_feed
+bad_rtcp_line k fault =
+    decimal k ++ codes " bad rtcp " ++ rtcp_kind_text fault.kind ++ codes " " ++ decimal fault.at ++ line_feed
 
 -- ---- which of them a datagram has
 
 -- the line that says what the datagram of line k is
 pub data IsInspection (k : ℕ) (octets line : List ℕ) : Type 0 where
-  RtpPacket : ¬ IsRtcp octets → (p : rtp.Packet) → rtp.IsPacket octets p → line ≡ rtp_line k p → IsInspection k octets line
-  BadRtp : ¬ IsRtcp octets → (fault : RtpFault) → rtp_faults.first_fault octets ≡ Some fault → line ≡ bad_rtp_line k fault → IsInspection k octets line
-  Compound : IsRtcp octets → (packets : List Spelled) → IsCompound octets packets → line ≡ rtcp_line k (packet_words packets) → IsInspection k octets line
-  BadRtcp : IsRtcp octets → (fault : RtcpFault) → HasFault octets fault → line ≡ bad_rtcp_line k fault → IsInspection k octets line
+  RtpPacket : ¬ IsRtcp octets → (p : rtp.Packet) → rtp.IsPacket octets p → line ≡ rtp_line k p →
+      IsInspection k octets line
+  BadRtp : ¬ IsRtcp octets → (fault : RtpFault) → rtp_faults.first_fault octets ≡ Some fault →
+      line ≡ bad_rtp_line k fault → IsInspection k octets line
+  Compound : IsRtcp octets → (packets : List SpelledPacket) → IsCompound octets packets →
+      line ≡ rtcp_line k (packet_words packets) → IsInspection k octets line
+  BadRtcp : IsRtcp octets → (fault : RtcpFault) → HasFault octets fault → line ≡ bad_rtcp_line k fault →
+      IsInspection k octets line
 
 -- ---- the same line, computed
 
@@ -114,7 +121,7 @@ with_word word (Err fault) = Err fault
 
 -- the fault of the packet at an offset; else the words, which begin with its own
 abbrev pub words_or : ℕ → Option RtcpFaultKind → Result (List ℕ) RtcpFault → Result (List ℕ) RtcpFault
-words_or offset (Some kind) words = Err (told offset kind)
+words_or offset (Some kind) words = Err (fault_at offset kind)
 words_or offset None words = words
 
 -- The words of the packets that the octets at an offset are, at most so many, or the first fault: if the packet at
@@ -123,7 +130,8 @@ unfoldable pub words_from : ℕ → ℕ → List ℕ → Result (List ℕ) RtcpF
 words_from zero offset octets = Ok []
 words_from (suc most) offset [] = Ok []
 words_from (suc most) offset (octet ∷ octets) = let rest : List ℕ = octet ∷ octets in
-    words_or offset (rtcp_faults.first_fault rest) (with_word (spaced_word (message rest)) (words_from most (offset + size rest) (drop (size rest) rest)))
+    words_or offset (rtcp_faults.first_fault rest)
+    (with_word (spaced_word (message rest)) (words_from most (offset + size rest) (drop (size rest) rest)))
 
 -- the words of all packets: there are fewer of them than octets
 abbrev pub words_in : List ℕ → Result (List ℕ) RtcpFault

@@ -81,11 +81,13 @@ feedback_text k feedback = nack_text k feedback.nack ++ pli_text k feedback.pli
 
 -- FIRST LAST KIND TS HEX
 abbrev pub frame_text : Frame → List ℕ
-frame_text frame = decimal frame.first ++ codes " " ++ decimal frame.last ++ codes " " ++ kind_text frame.key ++ codes " " ++ decimal frame.ts ++ codes " " ++ encode_lower frame.bytes
+frame_text frame = decimal frame.first ++ codes " " ++ decimal frame.last ++ codes " " ++ kind_text frame.key
+    ++ codes " " ++ decimal frame.ts ++ codes " " ++ encode_lower frame.bytes
 
 -- what became of a datagram, what it repaired, and the feedback
 abbrev pub handled_text : ℕ → Handled → List ℕ
-handled_text k handled = what_text k handled.what ++ repaired_text k handled.repaired ++ feedback_text k handled.feedback
+handled_text k handled =
+    what_text k handled.what ++ repaired_text k handled.repaired ++ feedback_text k handled.feedback
 
 -- K tick, and the feedback
 abbrev pub tick_text : ℕ → Feedback → List ℕ
@@ -125,4 +127,5 @@ error_line k reason = codes "error line " ++ decimal k ++ codes " " ++ error_rea
 -- the lines of the replies to events that follow a history, in order; each event stands with the number of its line
 unfoldable pub transcript : Settings → Meaning → List Event → List (ℕ × Event) → List ℕ
 transcript settings codec h [] = []
-transcript settings codec h ((k, e) ∷ rest) = text_of k (reply settings codec h e) ++ transcript settings codec (e ∷ h) rest
+transcript settings codec h ((k, e) ∷ rest) =
+    text_of k (reply settings codec h e) ++ transcript settings codec (e ∷ h) rest

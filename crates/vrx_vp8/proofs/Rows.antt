@@ -14,9 +14,12 @@ body_missing = refl
 
 -- 90e08001050000aa: the start of a keyframe, with layers
 pub part_with_layers : read_part (144 ∷ 224 ∷ 128 ∷ 1 ∷ 5 ∷ 0 ∷ 0 ∷ 170 ∷ [])
-    ≡ Ok (record { start = Yes; key = true; layers = Some (record { picture = 1; tl0 = 5; tid = 0; sync = false }); body = 0 ∷ 170 ∷ [] })
+    ≡ Ok (record {
+    start = Yes; key = true; layers = Some (record { picture = 1; tl0 = 5; tid = 0; sync = false }); body =
+    0 ∷ 170 ∷ [] })
 part_with_layers = refl
 
 -- 1000aa: the start of a keyframe, without layers
-pub part_alone : read_part (16 ∷ 0 ∷ 170 ∷ []) ≡ Ok (record { start = Yes; key = true; layers = None; body = 0 ∷ 170 ∷ [] })
+pub part_alone : read_part (16 ∷ 0 ∷ 170 ∷ []) ≡ Ok
+    (record { start = Yes; key = true; layers = None; body = 0 ∷ 170 ∷ [] })
 part_alone = refl

@@ -22,12 +22,7 @@ use Rattle.vrx_codec.specs.declared.fault.PartFault.{PartFault}
 use Rattle.vrx_codec.specs.Meaning.{Meaning}
 use Rattle.vrx_vp8.specs.declared.bits.TheConstants.{BIT_X, BIT_S, BIT_I, BIT_L, BIT_T, BIT_K, BIT_M, BIT_Y}
 use Rattle.vrx_vp8.specs.declared.faults.TheConstants.{SHORT, NO_BODY}
-
--- what comes next, of a value that is there
-infixl 10 ◌>>=◌
-abbrev pub ◌>>=◌ : {A B : Type 0} → Option A → (A → Option B) → Option B
-None >>= f = None
-(Some x) >>= f = f x
+use Rattle.vrx_num.specs.OptionChain.{◌>>=◌}
 
 -- the next octet and the octets after it, if a flag says that it comes: else 0, and nothing is taken
 abbrev pub octet_if : Bool → List ℕ → Option (ℕ × List ℕ)
@@ -42,8 +37,8 @@ pub record Fields : Type 0 where
   pub body : List ℕ
 
 -- from the first octet, the octet of extension flags (0 if there is none), and what follows it
-abbrev pub fields_behind : ℕ → ℕ × List ℕ → Option Fields
-fields_behind head flags = do
+abbrev pub fields_after : ℕ → ℕ × List ℕ → Option Fields
+fields_after head flags = do
   picture ← octet_if (bit BIT_I flags.0) flags.1
   low ← octet_if (bit BIT_M picture.0) picture.1
   tl0 ← octet_if (bit BIT_L flags.0) low.1
@@ -51,7 +46,8 @@ fields_behind head flags = do
   Some (record {
     start = bit BIT_S head && (head % 8 == 0);
     layers = if bit BIT_M picture.0 && bit BIT_L flags.0 && bit BIT_T flags.0
-        then Some (record { picture = picture.0 % 128 * 256 + low.0; tl0 = tl0.0; tid = tid.0 / 64; sync = bit BIT_Y tid.0 })
+        then Some (record {
+        picture = picture.0 % 128 * 256 + low.0; tl0 = tl0.0; tid = tid.0 / 64; sync = bit BIT_Y tid.0 })
         else None;
     body = tid.1;
   })
@@ -60,13 +56,15 @@ abbrev pub fields : List ℕ → Option Fields
 fields payload = do
   head ← octet_if true payload
   flags ← octet_if (bit BIT_X head.0) head.1
-  fields_behind head.0 flags
+  fields_after head.0 flags
 
 -- The part that the fields and a body give, if a body follows the descriptor. A frame's first part says a keyframe if
 -- bit P of the frame's first octet, the least significant one, is 0 (RFC 7741 4.3).
 abbrev pub part_with : ℕ → Fields → List ℕ → Result Part PartFault
 part_with len f [] = Err (record { code = NO_BODY; at = len })
-part_with len f (octet ∷ rest) = Ok (record { start = if f.start then Yes else No; key = f.start && (octet % 2 == 0); layers = f.layers; body = octet ∷ rest })
+part_with len f (octet ∷ rest) =
+    Ok (record {
+    start = if f.start then Yes else No; key = f.start && (octet % 2 == 0); layers = f.layers; body = octet ∷ rest })
 
 -- the part that the fields give, if the descriptor doesn't run past the end
 abbrev pub part_of : ℕ → Option Fields → Result Part PartFault

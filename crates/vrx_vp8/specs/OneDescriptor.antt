@@ -11,7 +11,8 @@ ReadsSpelled = (payload : List ℕ) (f : Fields) → (fields payload ≡ Some f)
 
 -- the part is that of the fields that are spelled
 abbrev pub GivesPart : Type 0
-GivesPart = (payload : List ℕ) (f : Fields) → IsDescriptor payload f → read_part payload ≡ part_with (length payload) f f.body
+GivesPart =
+    (payload : List ℕ) (f : Fields) → IsDescriptor payload f → read_part payload ≡ part_with (length payload) f f.body
 
 -- there are layers exactly if the octets say so
 abbrev pub GivesLayers : Type 0

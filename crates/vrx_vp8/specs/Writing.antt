@@ -11,16 +11,16 @@ start_bit start = if start then BIT_S else 0
 
 -- The payload. Without layers the descriptor is its first octet only. With layers bit X is 1, and I, L and T of the
 -- next octet; the PictureID has M = 1 and 15 bits; after TL0PICIDX come TID and Y, with KEYIDX 0.
-abbrev pub written : Bool → Option Layers → List ℕ → List ℕ
-written start None body = start_bit start ∷ body
-written start (Some layers) body =
+abbrev pub written_payload : Bool → Option Layers → List ℕ → List ℕ
+written_payload start None body = start_bit start ∷ body
+written_payload start (Some layers) body =
     (BIT_X + start_bit start) ∷ (BIT_I + BIT_L + BIT_T) ∷ (BIT_M + layers.picture / 256) ∷ (layers.picture % 256)
     ∷ layers.tl0 ∷ (layers.tid * 64 + (if layers.sync then BIT_Y else 0)) ∷ body
 
 -- the part that is said: it says a keyframe if it begins a frame whose first octet has bit P, the least significant
 -- one, 0 (RFC 7741 4.3)
-abbrev pub said : Bool → Option Layers → List ℕ → Part
-said start layers body = record {
+abbrev pub written_part : Bool → Option Layers → List ℕ → Part
+written_part start layers body = record {
   start = if start then Yes else No;
   key = start && (slice_index body 0 % 2 == 0);
   layers = layers;

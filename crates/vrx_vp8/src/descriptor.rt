@@ -4,7 +4,7 @@ ghost use Rattle.std.specs.Prelude.{◌≡◌, ◌+◌, ◌*◌, ◌/◌, ◌%�
 ghost use Rattle.std.specs.Option.{option_map};
 ghost use Rattle.vrx_codec.specs.View.{view_result};
 ghost use Rattle.vrx_codec.specs.Octet.{bit as bit_of};
-ghost use Rattle.vrx_vp8.specs.Descriptor.{octet_if as octet_if_of, fields_behind as fields_behind_of, fields as fields_of, part_with as part_with_of, read_part as read_part_of};
+ghost use Rattle.vrx_vp8.specs.Descriptor.{octet_if as octet_if_of, fields_after as fields_behind_of, fields as fields_of, part_with as part_with_of, read_part as read_part_of};
 ghost use Rattle.vrx_vp8.specs.View.{view_fields};
 
 use crate::bits::{BIT_I, BIT_K, BIT_L, BIT_M, BIT_S, BIT_T, BIT_X, BIT_Y};
@@ -52,7 +52,7 @@ fn layers_of(flags: u8, picture: u8, low: u8, tl0: u8, tid: u8) -> Option<Layers
 }
 
 /// The fields after the first octet and the octet of extension flags.
-fn fields_behind(head: u8, flags: u8, rest: &[u8]) -> Option<FieldsSeen<'_>>
+fn fields_after(head: u8, flags: u8, rest: &[u8]) -> Option<FieldsSeen<'_>>
     ensures { option_map view_fields result ≡ fields_behind_of head (flags, rest.now) }
 {
     let (picture, rest) = octet_if(bit(flags, BIT_I), rest)?;
@@ -72,7 +72,7 @@ fn fields(payload: &[u8]) -> Option<FieldsSeen<'_>>
 {
     let (head, rest) = octet_if(true, payload)?;
     let (flags, rest) = octet_if(bit(head, BIT_X), rest)?;
-    fields_behind(head, flags, rest)
+    fields_after(head, flags, rest)
 }
 
 /// The part that the fields of a payload of `len` octets give.

@@ -3,7 +3,7 @@
 ghost use Rattle.std.specs.Prelude.{◌≡◌, ◌+◌, ◌*◌, ◌<◌, if◌then◌else◌, length, IfOk, IfSome, Ok};
 ghost use Rattle.vrx_codec.specs.Joining.{FitsLayers};
 ghost use Rattle.vrx_vp8.specs.Descriptor.{read_part};
-ghost use Rattle.vrx_vp8.specs.Writing.{start_bit as start_bit_of, written, said};
+ghost use Rattle.vrx_vp8.specs.Writing.{start_bit as start_bit_of, written_payload, written_part};
 
 use crate::bits::{BIT_I, BIT_L, BIT_M, BIT_S, BIT_T, BIT_X, BIT_Y};
 use std::alloc::Global;
@@ -36,7 +36,7 @@ fn octets_of(
     body: &[u8],
 ) -> Result<Vec<u8>, NoMemory>
     requires { IfSome layers FitsLayers }
-    ensures { IfOk result (λ payload. payload.items ≡ written start layers body.now) }
+    ensures { IfOk result (λ payload. payload.items ≡ written_payload start layers body.now) }
 {
     let mut payload = Vec::new(alloc);
     match layers {
@@ -68,9 +68,9 @@ pub fn write_part(
 ) -> Result<Vec<u8>, NoMemory>
     requires body { 0 < length body.now }
     requires layers { IfSome layers FitsLayers }
-    ensures spelled { IfOk result (λ payload. payload.items ≡ written start layers body.now) }
+    ensures spelled { IfOk result (λ payload. payload.items ≡ written_payload start layers body.now) }
     // What is written is read again.
-    ensures again { IfOk result (λ payload. read_part payload.items ≡ Ok (said start layers body.now)) }
+    ensures again { IfOk result (λ payload. read_part payload.items ≡ Ok (written_part start layers body.now)) }
 {
     octets_of(alloc, start, layers, body)
 }

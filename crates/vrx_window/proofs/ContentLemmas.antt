@@ -11,10 +11,11 @@ use Rattle.vrx_window.specs.declared.held.Held.{Held}
 use Rattle.vrx_window.specs.declared.placing.Placing.TheVariants.{TooOld, Dead, Repeat, Fresh}
 use Rattle.vrx_window.specs.Content.{Content, content_of, contents, contents_of}
 use Rattle.vrx_window.specs.Sound.{AreSound, IsSound}
-use Rattle.vrx_window.specs.Window.{Contents, at, in_window, is_dead, is_too_old, left_in, newest_with, placed, placed_in, would_of}
+use Rattle.vrx_window.specs.Window.{Contents, at, in_window, is_dead, is_too_old, entries_in, newest_with, after_placing, entries_with, would_of}
 use Rattle.vrx_window.proofs.EntryLemmas.{find_put, find_where}
 
-contents-where : (p : ℕ → Bool) (es : List (ℕ × Held)) → contents (where_key nat_cmp p es) ≡ where_key nat_cmp p (contents es)
+contents-where : (p : ℕ → Bool) (es : List (ℕ × Held)) →
+    contents (where_key nat_cmp p es) ≡ where_key nat_cmp p (contents es)
 contents-where p [] = refl
 contents-where p (e ∷ es) =
     let rest = contents-where p es in
@@ -30,7 +31,8 @@ contents-put n held [] = refl
 contents-put n held (e ∷ es) =
     let rest = contents-put n held es in
     let first : ℕ × Content = (e.0, content_of e.1) in
-    elim (nat_cmp n e.0) as (λ o. contents (by_order o ((n, held) ∷ e ∷ es) ((e.0, held) ∷ es) (e ∷ put nat_cmp n held es))
+    elim (nat_cmp n e.0) as (λ o.
+    contents (by_order o ((n, held) ∷ e ∷ es) ((e.0, held) ∷ es) (e ∷ put nat_cmp n held es))
     ≡ by_order o ((n, content_of held) ∷ first ∷ contents es) ((e.0, content_of held) ∷ contents es)
     (first ∷ put nat_cmp n (content_of held) (contents es))) [
       | Less ↦ refl
@@ -49,19 +51,20 @@ contents-at n (e ∷ es) =
       | false ↦ rest
     ]
 
-pub contents-placed : (n : ℕ) (held : Held) (window : Contents Held)
-    → contents_of (placed n held window) ≡ placed n (content_of held) (contents_of window)
-contents-placed n held window = λ i. record {
+pub contents-after_placing : (n : ℕ) (held : Held) (window : Contents Held)
+    → contents_of (after_placing n held window) ≡ after_placing n (content_of held) (contents_of window)
+contents-after_placing n held window = λ i. record {
   newest = Some (newest_with window.newest n);
-  first = (placed n held window).first;
+  first = (after_placing n held window).first;
   packets = packets i;
-  dead = (placed n held window).dead;
+  dead = (after_placing n held window).dead;
 } where
   next : ℕ
   next = newest_with window.newest n
 
-  packets : contents (placed_in next n held window.packets) ≡ placed_in next n (content_of held) (contents window.packets)
-  packets = contents-put n held (left_in next window.packets)
+  packets : contents (entries_with next n held window.packets) ≡ entries_with next n (content_of held)
+      (contents window.packets)
+  packets = contents-put n held (entries_in next window.packets)
       ∙ ap (put nat_cmp n (content_of held)) (contents-where (in_window next) window.packets)
 
 available : (o : Option Held) → is_some (option_map content_of o) ≡ is_some o
@@ -84,10 +87,10 @@ sound_of codec held is true b o all h found = subst (IsSound codec) (same_Some h
 sound_of codec held is false true o all h found = all h found
 sound_of codec held is false false o all h found = absurd (none-some h found)
 
-pub sound-placed : (codec : Meaning) (n : ℕ) (held : Held) (window : Contents Held)
-    → AreSound codec window.packets → IsSound codec held → AreSound codec (placed n held window).packets
-sound-placed codec n held window are is m h found =
+pub sound-after_placing : (codec : Meaning) (n : ℕ) (held : Held) (window : Contents Held)
+    → AreSound codec window.packets → IsSound codec held → AreSound codec (after_placing n held window).packets
+sound-after_placing codec n held window are is m h found =
     let next : ℕ = newest_with window.newest n in
     sound_of codec held is (m == n) (in_window next m) (at m window.packets) (are m) h
-    (sym (find_put m n held (left_in next window.packets)
+    (sym (find_put m n held (entries_in next window.packets)
     ∙ ap (cond (m == n) (Some held)) (find_where (in_window next) m window.packets)) ∙ found)

@@ -5,7 +5,7 @@ use Rattle.std.specs.List.{filter}
 use Rattle.std.specs.Ordering.{nat_cmp}
 use Rattle.std.specs.FinMap.Entries.{where_key}
 use Rattle.std.proofs.lemmas.Grind.{common_steps}
-use Rattle.vrx_window.specs.Window.{Contents, given_up, in_window, is_dead, newest_with, placed, with_number}
+use Rattle.vrx_window.specs.Window.{Contents, after_giving_up, in_window, is_dead, newest_with, after_placing, with_number}
 use Rattle.vrx_window.specs.WindowMeans.{GivenUpMeans, PlacedMeans}
 use Rattle.vrx_window.proofs.EntryLemmas.{find_put, find_where}
 
@@ -20,7 +20,8 @@ is_dead-with_number n q [] = refl
 is_dead-with_number n q (k ∷ ks) = grind (arith, common_steps, is_dead-with_number n q ks)
 
 module _ {X : Type 0} where
-  pub placed_means : (n : ℕ) (held : X) (window : Contents X) → PlacedMeans n held window (placed n held window)
+  pub placed_means : (n : ℕ) (held : X) (window : Contents X) →
+      PlacedMeans n held window (after_placing n held window)
   placed_means n held window = record {
     here = find_put n n held kept ∙ grind (arith, common_steps);
     stays = λ m apart inside. record {
@@ -38,8 +39,8 @@ module _ {X : Type 0} where
     kept : List (ℕ × X)
     kept = where_key nat_cmp (in_window next) window.packets
 
-  pub given_up_means : (n : ℕ) (window : Contents X) → GivenUpMeans n window (given_up n window)
-  given_up_means n window = record {
+  pub after_giving_up_means : (n : ℕ) (window : Contents X) → GivenUpMeans n window (after_giving_up n window)
+  after_giving_up_means n window = record {
     here = grind (arith, common_steps, is_dead-with_number n n window.dead);
     packets = refl;
     stays = λ m apart. record {

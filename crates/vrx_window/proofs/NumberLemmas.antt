@@ -24,7 +24,8 @@ among_numbers (Some newest) q = grind (
 )
 
 -- two numbers of a window that share a slot are equal
-pub same_slot : (newest n m : ℕ) → in_window newest n ≡ true → in_window newest m ≡ true → n % WINDOW ≡ m % WINDOW → n ≡ m
+pub same_slot : (newest n m : ℕ) → in_window newest n ≡ true → in_window newest m ≡ true → n % WINDOW ≡ m % WINDOW →
+    n ≡ m
 same_slot newest n m a b same = grind (arith, common_steps)
 
 -- the same of a window that has a newest number, if it has one

@@ -8,8 +8,8 @@ use Rattle.vrx_num.specs.declared.limits.TheConstants.{WINDOW}
 use Rattle.vrx_window.specs.declared.slot.Slot.{Slot}
 use Rattle.vrx_window.specs.declared.slot.Slot.TheVariants.{Free, Taken}
 use Rattle.vrx_window.specs.Numbered.{IsNumbered}
-use Rattle.vrx_window.specs.Window.{at, in_window, is_inside, is_too_old, left_in, newest_with, placed_in}
-use Rattle.vrx_window.specs.Ring.{slot_of, value_of, value_at, shown, IsRing}
+use Rattle.vrx_window.specs.Window.{at, in_window, is_inside, is_too_old, entries_in, newest_with, entries_with}
+use Rattle.vrx_window.specs.Ring.{slot_of, value_of, value_at, numbered_of, IsRing}
 use Rattle.vrx_window.proofs.NumberLemmas.{same_slot, inside_with, beyond_else, old_outside, in_later, beyond_later}
 use Rattle.vrx_window.proofs.EntryLemmas.{true_of, few-entries, find-entries, entries-moved, entries-placed, sorted-entries}
 
@@ -51,27 +51,27 @@ module _ {X : Type 0} where
 
   module _ (newest : Option ℕ) (slots : List (Slot X)) (ring : IsRing newest slots) where
     -- what stands under a number, as the ring shows it
-    at_shown : (q : ℕ) → at q (shown newest slots).entries ≡ cond (is_inside newest q) (value_at slots q) None
+    at_shown : (q : ℕ) → at q (numbered_of newest slots).entries ≡ cond (is_inside newest q) (value_at slots q) None
     at_shown q = find-entries (value_at slots) newest q
 
     -- of a number that isn't too old the slot tells all
     at_young : (q : ℕ) (b : Bool) → is_inside newest q ≡ b → is_too_old newest q ≡ false
-        → at q (shown newest slots).entries ≡ value_at slots q
+        → at q (numbered_of newest slots).entries ≡ value_at slots q
     at_young q true is young = at_shown q ∙ ap (λ b. cond b (value_at slots q) None) is
     at_young q false is young = at_shown q ∙ ap (λ b. cond b (value_at slots q) None) is
         ∙ sym (ring.beyond q (beyond_else newest q young is))
 
     -- under a number that is too old nothing stands
-    pub at_old : (q : ℕ) → is_too_old newest q ≡ true → at q (shown newest slots).entries ≡ None
+    pub at_old : (q : ℕ) → is_too_old newest q ≡ true → at q (numbered_of newest slots).entries ≡ None
     at_old q old = at_shown q ∙ ap (λ b. cond b (value_at slots q) None) (old_outside newest q old)
 
     -- what stands under a number is what its slot has
     pub at_slot : (q : ℕ) (s : Slot X) → slot_of slots q ≡ s → is_too_old newest q ≡ false
-        → at q (shown newest slots).entries ≡ value_of q s
+        → at q (numbered_of newest slots).entries ≡ value_of q s
     at_slot q s is young = at_young q (is_inside newest q) refl young ∙ ap (value_of q) is
 
     -- what always holds
-    pub is_numbered : IsNumbered (shown newest slots)
+    pub is_numbered : IsNumbered (numbered_of newest slots)
     is_numbered = record {
       rise = true_of _ (sorted-entries (value_at slots) newest);
       inside = λ q has. present (is_inside newest q) (value_at slots q) (ap is_some (sym (at_shown q)) ∙ has);
@@ -88,8 +88,8 @@ module _ {X : Type 0} where
     pub ring_moved : (n : ℕ) → IsRing (Some (newest_with newest n)) slots
     ring_moved n = record { size = ring.size; beyond = λ m more. ring.beyond m (beyond_later newest n m more).0 }
 
-    pub entries_moved : (n : ℕ) → (shown (Some (newest_with newest n)) slots).entries
-        ≡ left_in (newest_with newest n) (shown newest slots).entries
+    pub entries_moved : (n : ℕ) → (numbered_of (Some (newest_with newest n)) slots).entries
+        ≡ entries_in (newest_with newest n) (numbered_of newest slots).entries
     entries_moved n = entries-moved (value_at slots) (value_at slots) newest (newest_with newest n)
         (λ q within. came n q (is_inside newest q) refl within)
 
@@ -113,8 +113,8 @@ module _ {X : Type 0} where
       ]
 
     pub entries_placed : (n : ℕ) (x : X) → is_too_old newest n ≡ false
-        → (shown (Some (newest_with newest n)) (written n x)).entries
-        ≡ placed_in (newest_with newest n) n x (shown newest slots).entries
+        → (numbered_of (Some (newest_with newest n)) (written n x)).entries
+        ≡ entries_with (newest_with newest n) n x (numbered_of newest slots).entries
     entries_placed n x young =
         let next : ℕ = newest_with newest n in
         let inside : in_window next n ≡ true = inside_with newest n young in

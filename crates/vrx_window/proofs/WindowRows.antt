@@ -3,7 +3,7 @@ use Rattle.std.proofs.Common.{◌≡◌, true, false, [], ◌∷◌, Some, refl}
 use Rattle.vrx_window.specs.declared.held.Held.{Held}
 use Rattle.vrx_window.specs.declared.held.Held.TheVariants.{Empty}
 use Rattle.vrx_window.specs.declared.placing.Placing.TheVariants.{TooOld, Dead, Repeat, Fresh}
-use Rattle.vrx_window.specs.Window.{Contents, nothing, would_of, placed, given_up}
+use Rattle.vrx_window.specs.Window.{Contents, nothing, would_of, after_placing, after_giving_up}
 
 -- two packets are held, and one number was given up
 abbrev window : Contents Held
@@ -21,8 +21,8 @@ lowest = refl
 below : would_of window 67952 ≡ TooOld
 below = refl
 
-given_up_once : would_of window 67954 ≡ Dead
-given_up_once = refl
+after_giving_up_once : would_of window 67954 ≡ Dead
+after_giving_up_once = refl
 
 -- above the newest number, and before the first
 above : would_of window 70001 ≡ Fresh
@@ -32,7 +32,7 @@ before : would_of window 68999 ≡ Fresh
 before = refl
 
 -- one number further, the lowest packet is gone, and the number given up is now the lowest
-one_further : placed 70001 (Empty true) window ≡ record {
+one_further : after_placing 70001 (Empty true) window ≡ record {
   newest = Some 70001;
   first = Some 69000;
   packets = (70000, Empty false) ∷ (70001, Empty true) ∷ [];
@@ -41,7 +41,7 @@ one_further : placed 70001 (Empty true) window ≡ record {
 one_further = refl
 
 -- below the first number, nothing moves
-between : placed 68999 (Empty true) window ≡ record {
+between : after_placing 68999 (Empty true) window ≡ record {
   newest = Some 70000;
   first = Some 69000;
   packets = (67953, Empty false) ∷ (68999, Empty true) ∷ (70000, Empty false) ∷ [];
@@ -50,7 +50,7 @@ between : placed 68999 (Empty true) window ≡ record {
 between = refl
 
 -- beyond all that the window had
-jump : placed 72049 (Empty true) window ≡ record {
+jump : after_placing 72049 (Empty true) window ≡ record {
   newest = Some 72049;
   first = Some 69000;
   packets = (72049, Empty true) ∷ [];
@@ -59,7 +59,7 @@ jump : placed 72049 (Empty true) window ≡ record {
 jump = refl
 
 -- the first number
-begin : placed 65537 (Empty true) nothing ≡ record {
+begin : after_placing 65537 (Empty true) nothing ≡ record {
   newest = Some 65537;
   first = Some 65537;
   packets = (65537, Empty true) ∷ [];
@@ -68,7 +68,7 @@ begin : placed 65537 (Empty true) nothing ≡ record {
 begin = refl
 
 -- numbers given up stand in their order
-in_order : given_up 69000 (given_up 69999 window) ≡ record {
+in_order : after_giving_up 69000 (after_giving_up 69999 window) ≡ record {
   newest = Some 70000;
   first = Some 69000;
   packets = (67953, Empty false) ∷ (70000, Empty false) ∷ [];

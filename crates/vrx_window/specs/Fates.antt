@@ -19,18 +19,18 @@ mark_of (Taken held) = None
 mark_of GivenUp = Some tt
 
 -- the entries of whose values f gives something, with what it gives
-abbrev pub picked : {X Y : Type 0} → (X → Option Y) → List (ℕ × X) → List (ℕ × Y)
-picked f entries = filter_map (λ entry. option_map (λ y. (entry.0, y)) (f entry.1)) entries
+abbrev pub entries_by : {X Y : Type 0} → (X → Option Y) → List (ℕ × X) → List (ℕ × Y)
+entries_by f entries = filter_map (λ entry. option_map (λ y. (entry.0, y)) (f entry.1)) entries
 
 -- the numbers of a map
 abbrev pub numbers_of : {X : Type 0} → List (ℕ × X) → List ℕ
 numbers_of entries = map (λ entry. entry.0) entries
 
 -- the window that the fates show
-abbrev pub shown_of : Option ℕ → Numbered Fate → Contents Held
-shown_of first ring = record {
+abbrev pub window_of : Option ℕ → Numbered Fate → Contents Held
+window_of first ring = record {
   newest = ring.newest;
   first = first;
-  packets = picked packet_of ring.entries;
-  dead = numbers_of (picked mark_of ring.entries);
+  packets = entries_by packet_of ring.entries;
+  dead = numbers_of (entries_by mark_of ring.entries);
 }

@@ -37,8 +37,8 @@ module _ {X : Type 0} where
   entry_at slots n = option_map (λ value. (n, value)) (value_at slots n)
 
   -- what the ring shows
-  abbrev pub shown : Option ℕ → List (Slot X) → Numbered X
-  shown newest slots = record { newest = newest; entries = filter_map (entry_at slots) (numbers newest) }
+  abbrev pub numbered_of : Option ℕ → List (Slot X) → Numbered X
+  numbered_of newest slots = record { newest = newest; entries = filter_map (entry_at slots) (numbers newest) }
 
   -- a ring: it has 2,048 slots, and no slot speaks of a number beyond the newest
   pub record IsRing (newest : Option ℕ) (slots : List (Slot X)) : Type 0 where

@@ -19,7 +19,8 @@ on_wire place = record { picture = place.picture % 32768; tl0 = place.tl0; tid =
 
 -- What stands beside a media packet's text is what the text says, as the codec reads it. The text isn't too long, it
 -- has no padding, and its payload isn't empty.
-pub record SaysItsText (codec : Meaning) (text : List ℕ) (marker : Bool) (ts : ℕ) (start : Start) (key : Bool) (layers : Option Place) : Type 0 where
+pub record SaysItsText (codec : Meaning) (text : List ℕ) (marker : Bool) (ts : ℕ) (start : Start) (key : Bool)
+    (layers : Option Place) : Type 0 where
   pub packet : Packet
   pub part : Part
   pub size : length text ≤ MOST_OCTETS

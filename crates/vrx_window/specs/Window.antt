@@ -66,29 +66,29 @@ with_number n [] = n ∷ []
 with_number n (k ∷ ks) = by_order (nat_cmp n k) (n ∷ k ∷ ks) (k ∷ ks) (k ∷ with_number n ks)
 
 -- the entries that are in the window after the newest number
-abbrev pub left_in : {X : Type 0} → ℕ → List (ℕ × X) → List (ℕ × X)
-left_in newest entries = where_key nat_cmp (in_window newest) entries
+abbrev pub entries_in : {X : Type 0} → ℕ → List (ℕ × X) → List (ℕ × X)
+entries_in newest entries = where_key nat_cmp (in_window newest) entries
 
 -- the entries after x was put under n: those that are in the window after the newest number, and x
-abbrev pub placed_in : {X : Type 0} → ℕ → ℕ → X → List (ℕ × X) → List (ℕ × X)
-placed_in newest n x entries = put nat_cmp n x (where_key nat_cmp (in_window newest) entries)
+abbrev pub entries_with : {X : Type 0} → ℕ → ℕ → X → List (ℕ × X) → List (ℕ × X)
+entries_with newest n x entries = put nat_cmp n x (where_key nat_cmp (in_window newest) entries)
 
 -- The window after a packet was placed under n. Its newest number is the greater of both, and n is its first number
 -- only if there was none. Of the packets held and of the numbers given up those stay that are in the new window, and
 -- the packet is held under n.
-abbrev pub placed : {X : Type 0} → ℕ → X → Contents X → Contents X
-placed n packet window =
+abbrev pub after_placing : {X : Type 0} → ℕ → X → Contents X → Contents X
+after_placing n packet window =
     let newest : ℕ = newest_with window.newest n in
     record {
       newest = Some newest;
       first = Some (unwrap_or window.first n);
-      packets = placed_in newest n packet window.packets;
+      packets = entries_with newest n packet window.packets;
       dead = filter (in_window newest) window.dead;
     }
 
 -- the window after n was given up: n is among the numbers given up, and all else stays
-abbrev pub given_up : {X : Type 0} → ℕ → Contents X → Contents X
-given_up n window = record {
+abbrev pub after_giving_up : {X : Type 0} → ℕ → Contents X → Contents X
+after_giving_up n window = record {
   newest = window.newest;
   first = window.first;
   packets = window.packets;

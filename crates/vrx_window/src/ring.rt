@@ -4,7 +4,7 @@ ghost use Rattle.std.specs.Prelude.{◌≡◌, ◌%◌, false, Some, IfOk};
 ghost use Rattle.std.specs.Option.{option_copied};
 ghost use Rattle.vrx_num.specs.declared.limits.TheConstants.{WINDOW};
 ghost use Rattle.vrx_window.specs.Numbered.{empty, IsNumbered};
-ghost use Rattle.vrx_window.specs.Window.{at, is_too_old, left_in, newest_with, placed_in};
+ghost use Rattle.vrx_window.specs.Window.{at, is_too_old, entries_in, newest_with, entries_with};
 
 use crate::slot::Slot;
 use std::alloc::Global;
@@ -31,9 +31,9 @@ impl<T> Model for Ring<T> {
 
     ghost coded = { numbered_code T.code };
 
-    ghost use Rattle.vrx_window.specs.Ring.{IsRing, shown};
+    ghost use Rattle.vrx_window.specs.Ring.{IsRing, numbered_of};
 
-    ghost view = { λ a. shown a.newest a.slots.items };
+    ghost view = { λ a. numbered_of a.newest a.slots.items };
 
     ghost invariant = { λ a. IsRing a.newest a.slots.items };
 }
@@ -79,7 +79,7 @@ impl<T: Drop> Ring<T> {
     pub fn place(&mut self, n: u64, value: T)
         requires young { is_too_old self.old.newest n ≡ false }
         ensures newest { self.new.newest ≡ Some (newest_with self.old.newest n) }
-        ensures entries { self.new.entries ≡ placed_in (newest_with self.old.newest n) n value self.old.entries }
+        ensures entries { self.new.entries ≡ entries_with (newest_with self.old.newest n) n value self.old.entries }
         ensures sound { IsNumbered self.new }
     {
         self.slots[slot_of(n)] = Slot::Taken { number: n, value };
@@ -89,7 +89,7 @@ impl<T: Drop> Ring<T> {
     /// Moves the window to a number, if that is greater than the newest. What the window leaves is gone.
     pub fn move_to(&mut self, n: u64)
         ensures newest { self.new.newest ≡ Some (newest_with self.old.newest n) }
-        ensures entries { self.new.entries ≡ left_in (newest_with self.old.newest n) self.old.entries }
+        ensures entries { self.new.entries ≡ entries_in (newest_with self.old.newest n) self.old.entries }
         ensures sound { IsNumbered self.new }
     {
         self.newest = Some(newest_with(self.newest, n));

@@ -3,7 +3,7 @@
 ghost use Rattle.std.specs.Prelude.{◌≡◌, true, IfOk};
 ghost use Rattle.std.specs.Option.{option_copied};
 ghost use Rattle.vrx_window.specs.IsWindow.{IsWindow};
-ghost use Rattle.vrx_window.specs.Window.{at, given_up, is_inside, nothing, placed, would_of};
+ghost use Rattle.vrx_window.specs.Window.{at, after_giving_up, is_inside, nothing, after_placing, would_of};
 ghost use Rattle.vrx_window.specs.declared.placing.Placing.TheVariants.{Fresh};
 
 use crate::fate::Fate;
@@ -31,10 +31,10 @@ impl Model for Window {
 
     ghost Value = { Contents Held };
 
-    ghost use Rattle.vrx_window.specs.Fates.{shown_of};
+    ghost use Rattle.vrx_window.specs.Fates.{window_of};
     ghost use Rattle.vrx_window.specs.Numbered.{IsNumbered};
 
-    ghost view = { λ a. shown_of a.first a.ring };
+    ghost view = { λ a. window_of a.first a.ring };
 
     ghost invariant = { λ a. IsNumbered a.ring };
 }
@@ -92,7 +92,7 @@ impl Window {
     /// the window, and what the window leaves is gone. It takes no memory.
     pub fn place(&mut self, n: u64, held: Held)
         requires fresh { would_of self.old n ≡ Fresh }
-        ensures placed { self.new ≡ placed n held self.old }
+        ensures placed { self.new ≡ after_placing n held self.old }
     {
         self.ring.place(n, Fate::Taken(held));
         self.first = Some(self.first.unwrap_or(n));
@@ -102,7 +102,7 @@ impl Window {
     pub fn give_up(&mut self, n: u64)
         requires inside { is_inside self.old.newest n ≡ true }
         requires fresh { would_of self.old n ≡ Fresh }
-        ensures given_up { self.new ≡ given_up n self.old }
+        ensures given_up { self.new ≡ after_giving_up n self.old }
     {
         self.ring.place(n, Fate::GivenUp);
     }

@@ -1,6 +1,7 @@
 -- A packet that fits its octets fits them wrapped, too.
 use Rattle.std.proofs.Common.{◌≡◌, ℕ, ◌^◌, ◌<◌, Ok, arith}
-use Rattle.vrx_rtp.specs.Packet.{Packet, Fits, AreOctets, spelled}
+use Rattle.vrx_rtp.specs.Packet.{Packet, Fits, octets_of}
+use Rattle.vrx_num.specs.Octets.{AreOctets}
 use Rattle.vrx_rtp.specs.Reading.{reading}
 use Rattle.vrx_rtp.specs.Laws.{SpellsItself, ReadsPackets}
 use Rattle.vrx_wrap.specs.Red.{red_of}
@@ -30,6 +31,6 @@ fits-rtx rtx_type rtx_ssrc rtx_seq p small source number fits = record {
 }
 
 -- octets of a packet that fits are read as it, by the laws of packets
-pub spelled-read : SpellsItself → ReadsPackets → (p : Packet) → Fits p
-    → AreOctets (spelled p) → reading (spelled p) ≡ Ok p
-spelled-read spells reads p fits are = (reads (spelled p) p are).1 (spells p fits)
+pub octets_of-read : SpellsItself → ReadsPackets → (p : Packet) → Fits p
+    → AreOctets (octets_of p) → reading (octets_of p) ≡ Ok p
+octets_of-read spells reads p fits are = (reads (octets_of p) p are).1 (spells p fits)

@@ -1,6 +1,6 @@
 -- RED and retransmissions on rows worked by hand.
 use Rattle.std.specs.Prelude.{◌≡◌, ℕ, true, List, [], ◌∷◌, refl, None, Ok, Err}
-use Rattle.vrx_rtp.specs.Packet.{Packet, spelled}
+use Rattle.vrx_rtp.specs.Packet.{Packet, octets_of}
 use Rattle.vrx_rtp.specs.Reading.{reading}
 use Rattle.vrx_wrap.specs.declared.red.RedFault.TheVariants.{Empty, MoreBlocks}
 use Rattle.vrx_wrap.specs.declared.rtx.RtxFault.TheVariants.{NoApt, RtxEmpty}
@@ -35,7 +35,7 @@ media = plain 96 1 10 (0x10 ∷ 0 ∷ 0xaa ∷ [])
 abbrev red_datagram : List ℕ
 red_datagram = plain_octets 0xe4 1 0x0a (0x60 ∷ 0x10 ∷ 0 ∷ 0xaa ∷ [])
 
-red_spelled : spelled (red_of 100 media) ≡ red_datagram
+red_spelled : octets_of (red_of 100 media) ≡ red_datagram
 red_spelled = refl
 
 red_read : reading red_datagram ≡ Ok (plain 100 1 10 (0x60 ∷ 0x10 ∷ 0 ∷ 0xaa ∷ []))

@@ -7,7 +7,8 @@ use Rattle.std.specs.Option.{option_map}
 use Rattle.std.proofs.lemmas.Bool.{eqb-true, eqb-false}
 use Rattle.std.proofs.lemmas.Nat.{be_bytes_2, from_be_bytes-to_be_bytes_2}
 use Rattle.std.proofs.lemmas.Option.{none-some, some_pair_parts}
-use Rattle.vrx_rtp.specs.Packet.{Packet, AreOctets}
+use Rattle.vrx_rtp.specs.Packet.{Packet}
+use Rattle.vrx_num.specs.Octets.{AreOctets}
 use Rattle.vrx_rtp.specs.View.{view}
 use Rattle.vrx_rtp.specs.declared.rtp_view.RtpView.{RtpView}
 use Rattle.vrx_wrap.specs.declared.rtx.RtxFault.{RtxFault}
@@ -134,7 +135,8 @@ parts-at (high ∷ low ∷ octets) seq rest are e =
       sym spelled,
     )
 
-at-rtx_payload : (seq : ℕ) (payload : List ℕ) → seq < 2 ^ 16 → number_at (rtx_payload seq payload) ≡ Some (seq, payload)
+at-rtx_payload : (seq : ℕ) (payload : List ℕ) → seq < 2 ^ 16 →
+    number_at (rtx_payload seq payload) ≡ Some (seq, payload)
 at-rtx_payload seq payload fits = ap (λ (n : ℕ). Some (n, payload)) (from_be_bytes-to_be_bytes_2 seq fits)
 
 abbrev read_as : Packet → Result Packet RtxFault
@@ -149,7 +151,8 @@ original-with : (apt : Apt) (rtx o : Packet) (pt : ℕ) (found : Option (ℕ × 
 original-with apt rtx o pt None type is are e = absurd cc
 original-with apt rtx o pt (Some (seq, payload)) type is are e =
     let spelled = parts-at rtx.payload seq payload are is in
-    subst (λ (x : Packet). IsOriginal apt rtx x) (read-same (packet_as rtx pt seq apt.media_ssrc payload) o e) (record {
+    subst (λ (x : Packet). IsOriginal apt rtx x) (read-same (packet_as rtx pt seq apt.media_ssrc payload) o e)
+    (record {
       type_of = type;
       source = refl;
       number = spelled.0;
@@ -172,7 +175,8 @@ original-of apt rtx o are e = original-typed apt rtx o (original_type apt rtx.pt
 
 -- a packet with its own fields is the packet
 same_packet : (rtx o : Packet) (ssrc : ℕ)
-    → o.ssrc ≡ ssrc → o.marker ≡ rtx.marker → o.ts ≡ rtx.ts → o.csrc ≡ rtx.csrc → o.extension ≡ rtx.extension → o.padding ≡ 0
+    → o.ssrc ≡ ssrc → o.marker ≡ rtx.marker → o.ts ≡ rtx.ts → o.csrc ≡ rtx.csrc → o.extension ≡ rtx.extension →
+    o.padding ≡ 0
     → packet_as rtx o.pt o.seq ssrc o.payload ≡ o
 same_packet rtx o ssrc source marker ts csrc extension padding =
     rw (← source, ← marker, ← ts, ← csrc, ← extension, ← padding) refl

@@ -1,6 +1,7 @@
 -- What holds of RED with one block (RFC 2198 3) and of retransmissions (RFC 4588 4), as statements.
 use Rattle.std.specs.Prelude.{◌≡◌, ◌↔◌, ℕ, ◌^◌, ◌<◌, List, Ok}
-use Rattle.vrx_rtp.specs.Packet.{Packet, Fits, AreOctets, spelled}
+use Rattle.vrx_rtp.specs.Packet.{Packet, Fits, octets_of}
+use Rattle.vrx_num.specs.Octets.{AreOctets}
 use Rattle.vrx_rtp.specs.Reading.{reading}
 use Rattle.vrx_wrap.specs.Red.{Block, IsRed, block_of, red_of}
 use Rattle.vrx_wrap.specs.Rtx.{Apt, IsOriginal, StandsFor, original_of, rtx_of, unpadded_packet}
@@ -19,8 +20,8 @@ abbrev pub FitsRed : Type 0
 FitsRed = (red_type : ℕ) (p : Packet) → red_type < 128 → Fits p → Fits (red_of red_type p)
 
 abbrev pub ReadsRedOctets : Type 0
-ReadsRedOctets = (red_type : ℕ) (p : Packet) → red_type < 128 → Fits p → AreOctets (spelled (red_of red_type p)) →
-    reading (spelled (red_of red_type p)) ≡ Ok (red_of red_type p)
+ReadsRedOctets = (red_type : ℕ) (p : Packet) → red_type < 128 → Fits p → AreOctets (octets_of (red_of red_type p)) →
+    reading (octets_of (red_of red_type p)) ≡ Ok (red_of red_type p)
 
 -- the original of a packet is the one that it has the form of, if its payload is octets
 abbrev pub HasOneOriginal : Type 0
@@ -39,5 +40,5 @@ FitsRtx = (rtx_type rtx_ssrc rtx_seq : ℕ) (p : Packet) → rtx_type < 128 → 
 
 abbrev pub ReadsRtxOctets : Type 0
 ReadsRtxOctets = (rtx_type rtx_ssrc rtx_seq : ℕ) (p : Packet) → rtx_type < 128 → rtx_ssrc < 2 ^ 32 →
-    rtx_seq < 2 ^ 16 → Fits p → AreOctets (spelled (rtx_of rtx_type rtx_ssrc rtx_seq p)) →
-    reading (spelled (rtx_of rtx_type rtx_ssrc rtx_seq p)) ≡ Ok (rtx_of rtx_type rtx_ssrc rtx_seq p)
+    rtx_seq < 2 ^ 16 → Fits p → AreOctets (octets_of (rtx_of rtx_type rtx_ssrc rtx_seq p)) →
+    reading (octets_of (rtx_of rtx_type rtx_ssrc rtx_seq p)) ≡ Ok (rtx_of rtx_type rtx_ssrc rtx_seq p)

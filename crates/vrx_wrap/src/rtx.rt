@@ -2,7 +2,8 @@
 
 ghost use Rattle.std.specs.Prelude.{◌≡◌, ◌↔◌, ◌<◌, length, Ok, IfOk, OnOk, IfSome, IsOkAnd, IsErrOf};
 ghost use Rattle.std.specs.Option.{option_map};
-ghost use Rattle.vrx_rtp.specs.Packet.{Packet, IsPacket, AreOctets, AreWords, spelled};
+ghost use Rattle.vrx_rtp.specs.Packet.{Packet, IsPacket, AreWords, octets_of};
+ghost use Rattle.vrx_num.specs.Octets.{AreOctets};
 ghost use Rattle.vrx_rtp.specs.Reading.{reading};
 ghost use Rattle.vrx_rtp.specs.View.{view as packet_of};
 ghost use Rattle.vrx_wrap.specs.Rtx.{Apt as AptOf, IsOriginal, IsRtxType, StandsFor, number_at, rtx_payload, original_of, rtx_of, unpadded_packet};
@@ -102,7 +103,7 @@ pub fn rtx_wrap(
     requires csrc { AreWords 60 view.now.csrc.now }
     requires extension { IfSome view.now.extension (λ e. AreWords 262140 e.words.now) }
     ensures spelled { IfOk result (λ datagram.
-        datagram.items ≡ spelled (rtx_of rtx_type rtx_ssrc rtx_seq (packet_of view.now))) }
+        datagram.items ≡ octets_of (rtx_of rtx_type rtx_ssrc rtx_seq (packet_of view.now))) }
     // It is the retransmission in the grammar of packets, so reading it gives the retransmission.
     ensures packet { IfOk result (λ datagram.
         IsPacket datagram.items (rtx_of rtx_type rtx_ssrc rtx_seq (packet_of view.now))) }

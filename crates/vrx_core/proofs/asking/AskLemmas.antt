@@ -34,17 +34,26 @@ ask-is past n = by (requests past n) refl where
   by moments is = refl
 
 -- an event that doesn't ask for a number leaves its requests
-pub requests-none : (s : Snapshot) (past : List Snapshot) (n : ℕ) → is_among s.asked n ≡ false → requests (s ∷ past) n ≡ requests past n
-requests-none s past n h = ap (λ b. map (λ (t : Snapshot). t.now) (cond b (s ∷ filter (λ (t : Snapshot). is_among t.asked n) past) (filter (λ (t : Snapshot). is_among t.asked n) past))) h
+pub requests-none : (s : Snapshot) (past : List Snapshot) (n : ℕ) → is_among s.asked n ≡ false →
+    requests (s ∷ past) n ≡ requests past n
+requests-none s past n h =
+    ap (λ b. map (λ (t : Snapshot). t.now)
+    (cond b (s ∷ filter (λ (t : Snapshot). is_among t.asked n) past)
+    (filter (λ (t : Snapshot). is_among t.asked n) past))) h
 
 -- and one that asks for it is one more
-pub requests-more : (s : Snapshot) (past : List Snapshot) (n : ℕ) → is_among s.asked n ≡ true → requests (s ∷ past) n ≡ s.now ∷ requests past n
-requests-more s past n h = ap (λ b. map (λ (t : Snapshot). t.now) (cond b (s ∷ filter (λ (t : Snapshot). is_among t.asked n) past) (filter (λ (t : Snapshot). is_among t.asked n) past))) h
+pub requests-more : (s : Snapshot) (past : List Snapshot) (n : ℕ) → is_among s.asked n ≡ true →
+    requests (s ∷ past) n ≡ s.now ∷ requests past n
+requests-more s past n h =
+    ap (λ b. map (λ (t : Snapshot). t.now)
+    (cond b (s ∷ filter (λ (t : Snapshot). is_among t.asked n) past)
+    (filter (λ (t : Snapshot). is_among t.asked n) past))) h
 
 -- a number that wasn't asked for has no requests
 pub requests-never : (past : List Snapshot) (n : ℕ) → was_asked past n ≡ false → requests past n ≡ []
 requests-never [] n h = refl
-requests-never (s ∷ past) n h = let p : (is_among s.asked n ≡ false) × (was_asked past n ≡ false) = or_parts (is_among s.asked n) (was_asked past n) h in requests-none s past n p.0 ∙ requests-never past n p.1
+requests-never (s ∷ past) n h = let p : (is_among s.asked n ≡ false) × (was_asked past n ≡ false) =
+    or_parts (is_among s.asked n) (was_asked past n) h in requests-none s past n p.0 ∙ requests-never past n p.1
 
 -- the numbers of asks
 pub numbers-asks : (past : List Snapshot) (ns : List ℕ) → numbers (map (ask_of past) ns) ≡ ns
@@ -61,15 +70,22 @@ pub record WasCounted (past : List Snapshot) (n : ℕ) : Type 0 where
   pub once : 1 ≤ length (requests past n)
   pub few : length (requests past n) ≤ MOST_REQUESTS
 
-pub counted-each : (past : List Snapshot) (ns : List ℕ) (n : ℕ) → list_all is_counted (map (ask_of past) ns) ≡ true → Contains ns n → WasCounted past n
+pub counted-each : (past : List Snapshot) (ns : List ℕ) (n : ℕ) → list_all is_counted (map (ask_of past) ns) ≡ true →
+    Contains ns n → WasCounted past n
 counted-each past ns n all c =
-    let is : is_counted (ask_of past n) ≡ true = list_all-each is_counted (map (ask_of past) ns) (ask_of past n) all (map-to (ask_of past) ns n c) in
-    let p : (nat_le 1 (length (requests past n)) ≡ true) × (nat_le (length (requests past n)) MOST_REQUESTS ≡ true) = and_parts (nat_le 1 (length (requests past n))) (nat_le (length (requests past n)) MOST_REQUESTS) is in
-    record { once = leb-true 1 (length (requests past n)) p.0; few = leb-true (length (requests past n)) MOST_REQUESTS p.1 }
+    let is : is_counted (ask_of past n) ≡ true =
+        list_all-each is_counted (map (ask_of past) ns) (ask_of past n) all (map-to (ask_of past) ns n c) in
+    let p : (nat_le 1 (length (requests past n)) ≡ true) × (nat_le (length (requests past n)) MOST_REQUESTS ≡ true) =
+        and_parts (nat_le 1 (length (requests past n))) (nat_le (length (requests past n)) MOST_REQUESTS) is in
+    record {
+        once = leb-true 1 (length (requests past n)) p.0; few =
+        leb-true (length (requests past n)) MOST_REQUESTS p.1 }
 
 -- the same, of asks that are those of a past
-pub counted-of : (past : List Snapshot) (asks : List Ask) → asks ≡ map (ask_of past) (missing past) → IsAsks asks → (n : ℕ) → Contains (missing past) n → WasCounted past n
-counted-of past asks is sound n c = counted-each past (missing past) n (ap (list_all is_counted) (sym is) ∙ sound.counted) c
+pub counted-of : (past : List Snapshot) (asks : List Ask) → asks ≡ map (ask_of past) (missing past) → IsAsks asks →
+    (n : ℕ) → Contains (missing past) n → WasCounted past n
+counted-of past asks is sound n c =
+    counted-each past (missing past) n (ap (list_all is_counted) (sym is) ∙ sound.counted) c
 
 -- tests in the other order
 and-swap : (a b : Bool) → (a && b) ≡ (b && a)
@@ -90,7 +106,8 @@ ten-not-below x m upto = elim (cases_lt x m) [
 
 -- a number is given up by the moments of its requests, as the ask says it
 pub given-up-test : (now interval n : ℕ) (moments : List ℕ) → 1 ≤ length moments → length moments ≤ MOST_REQUESTS
-    → ((length moments == MOST_REQUESTS) && is_old interval now moments) ≡ is_given_up now interval (ask_from n moments)
+    → ((length moments == MOST_REQUESTS) && is_old interval now moments) ≡ is_given_up now interval
+    (ask_from n moments)
 given-up-test now interval n [] once few = absurd (omega (arith, once))
 given-up-test now interval n (last ∷ earlier) once few =
     ap (λ b. b && nat_le (last + interval) now) (ten-not-below (length (last ∷ earlier)) MOST_REQUESTS few)
@@ -98,9 +115,11 @@ given-up-test now interval n (last ∷ earlier) once few =
 
 -- and it is asked for again
 pub asked-test : (now interval n : ℕ) (moments : List ℕ) → 1 ≤ length moments
-    → (nat_lt (length moments) MOST_REQUESTS && is_old interval now moments) ≡ is_asked now interval (ask_from n moments)
+    → (nat_lt (length moments) MOST_REQUESTS && is_old interval now moments) ≡ is_asked now interval
+    (ask_from n moments)
 asked-test now interval n [] once = absurd (omega (arith, once))
-asked-test now interval n (last ∷ earlier) once = and-swap (nat_lt (length (last ∷ earlier)) MOST_REQUESTS) (nat_le (last + interval) now)
+asked-test now interval n (last ∷ earlier) once =
+    and-swap (nat_lt (length (last ∷ earlier)) MOST_REQUESTS) (nat_le (last + interval) now)
 
 -- a number isn't above another
 pub lt-not-le : (f n : ℕ) → nat_lt f n ≡ not (nat_le n f)
@@ -114,9 +133,14 @@ lt-not-le f n = elim (cases_lt f n) [
 
 module _ (past : List Snapshot) (ns : List ℕ) where
   -- the asks of numbers beyond the front
-  pub beyond-front : (front : Option ℕ) → beyond_front front (map (ask_of past) ns) ≡ map (ask_of past) (filter (λ n. not (is_passed front n)) ns)
-  beyond-front None = ap (map (ask_of past)) (sym (filter-whole (λ n. true) ns (all-of (λ n. true ≡ true) ns (λ n c. refl))))
-  beyond-front (Some f) = filter-map (ask_of past) (λ ask. nat_lt f ask.number) ns ∙ ap (map (ask_of past)) (filter-same (λ n. nat_lt f n) (λ n. not (nat_le n f)) ns (all-of (λ n. nat_lt f n ≡ not (nat_le n f)) ns (λ n c. lt-not-le f n)))
+  pub beyond-front : (front : Option ℕ) →
+      beyond_front front (map (ask_of past) ns) ≡ map (ask_of past) (filter (λ n. not (is_passed front n)) ns)
+  beyond-front None =
+      ap (map (ask_of past)) (sym (filter-whole (λ n. true) ns (all-of (λ n. true ≡ true) ns (λ n c. refl))))
+  beyond-front (Some f) = filter-map (ask_of past) (λ ask. nat_lt f ask.number) ns
+      ∙ ap (map (ask_of past))
+      (filter-same (λ n. nat_lt f n) (λ n. not (nat_le n f)) ns
+      (all-of (λ n. nat_lt f n ≡ not (nat_le n f)) ns (λ n c. lt-not-le f n)))
 
   -- beyond a number
   pub beyond-number : (f : ℕ) → beyond f (map (ask_of past) ns) ≡ map (ask_of past) (filter (λ n. nat_lt f n) ns)
@@ -131,24 +155,29 @@ abbrev pub first_ask : ℕ → ℕ → Ask
 first_ask now n = record { number = n; times = 1; last = now }
 
 -- numbers that are missing too
-pub all-missing : (now : ℕ) (ns : List ℕ) (asks : List Ask) → with_all_missing now ns asks ≡ asks ++ map (first_ask now) ns
+pub all-missing : (now : ℕ) (ns : List ℕ) (asks : List Ask) →
+    with_all_missing now ns asks ≡ asks ++ map (first_ask now) ns
 all-missing now [] asks = sym (append-nil asks)
-all-missing now (n ∷ ns) asks = all-missing now ns (with_missing n now asks) ∙ append_assoc asks (first_ask now n ∷ []) (map (first_ask now) ns)
+all-missing now (n ∷ ns) asks =
+    all-missing now ns (with_missing n now asks) ∙ append_assoc asks (first_ask now n ∷ []) (map (first_ask now) ns)
 
 -- the greatest of numbers and one more
 greater-later : (a b : Option ℕ) (x : ℕ) → greater (later_of a b) x ≡ later_of (greater a x) b
 greater-later None b x = refl
 greater-later (Some a) None x = refl
-greater-later (Some a) (Some b) x = ap (λ (k : ℕ). Some k) (let e : max (max b a) x ≡ max b (max a x) = omega arith in e)
+greater-later (Some a) (Some b) x =
+    ap (λ (k : ℕ). Some k) (let e : max (max b a) x ≡ max b (max a x) = omega arith in e)
 
 -- the greatest of two lists
 pub greatest-append : (xs ys : List ℕ) → greatest_of (xs ++ ys) ≡ later_of (greatest_of xs) (greatest_of ys)
 greatest-append [] ys = refl
-greatest-append (x ∷ xs) ys = ap (λ o. greater o x) (greatest-append xs ys) ∙ greater-later (greatest_of xs) (greatest_of ys) x
+greatest-append (x ∷ xs) ys =
+    ap (λ o. greater o x) (greatest-append xs ys) ∙ greater-later (greatest_of xs) (greatest_of ys) x
 
 greater-twice : (o : Option ℕ) (x y : ℕ) → x < y → greater (greater o y) x ≡ greater o y
 greater-twice None x y less = ap (λ (k : ℕ). Some k) (let e : max y x ≡ y = omega (arith, less) in e)
-greater-twice (Some g) x y less = ap (λ (k : ℕ). Some k) (let e : max (max g y) x ≡ max g y = omega (arith, less) in e)
+greater-twice (Some g) x y less =
+    ap (λ (k : ℕ). Some k) (let e : max (max g y) x ≡ max g y = omega (arith, less) in e)
 
 -- the last of numbers that rise is the greatest
 pub last-greatest : (ns : List ℕ) → Rises (λ n. n) ns → last_of ns ≡ greatest_of ns

@@ -10,9 +10,9 @@ use Rattle.vrx_frames.specs.Completed.{is_among}
 use Rattle.vrx_frames.specs.Run.{Run}
 use Rattle.vrx_core.specs.machine.Asking.{AreApart, AskedAreMissingHolds, FewRequestsHold, IsMissing, LostStaysHolds, RequestsApartHold}
 use Rattle.vrx_core.specs.machine.GivenUp.{is_lost}
-use Rattle.vrx_core.specs.machine.Machine.{Snapshot, latest, next, next_run, after_datagram, after_pull, after_tick, settled, snapshots}
+use Rattle.vrx_core.specs.machine.Machine.{Snapshot, latest, next, next_run, after_datagram, after_pull, after_tick, after_settling, snapshots}
 use Rattle.vrx_core.specs.machine.Snapshot.{moved}
-use Rattle.vrx_window.specs.Window.{placed}
+use Rattle.vrx_window.specs.Window.{after_placing}
 use Rattle.vrx_core.specs.machine.Request.{is_old, missing, requests}
 use Rattle.vrx_core.specs.machine.Verdict.{verdict}
 use Rattle.vrx_core.specs.declared.settings.Settings.{Settings}
@@ -28,35 +28,58 @@ use Rattle.vrx_core.proofs.asking.SaneLemmas.{sane, some-value, taken-asked-miss
 use Rattle.vrx_core.proofs.asking.TakenLemmas.{missing-asked}
 
 -- a datagram that asks for a number asks for the first time
-taken-first : (codec : Meaning) (past : List Snapshot) (moment n : ℕ) (content : Content) (m : ℕ) → is_among (after_datagram codec past moment (Ok (n, content))).asked m ≡ true → length (requests past m) ≡ 0
+taken-first : (codec : Meaning) (past : List Snapshot) (moment n : ℕ) (content : Content) (m : ℕ) →
+    is_among (after_datagram codec past moment (Ok (n, content))).asked m ≡ true → length (requests past m) ≡ 0
 taken-first codec past moment n content m is =
-    let s : Snapshot = settled codec past (record (moved (latest past) moment) { window = placed n content (latest past).window }) in
-    eqb-true (length (requests past m)) 0 (filter-from (λ k. length (requests (s ∷ past) k) == 0) (missing (s ∷ past)) m (among-from (after_datagram codec past moment (Ok (n, content))).asked m is)).1
+    let s : Snapshot = after_settling codec past
+        (record (moved (latest past) moment) { window = after_placing n content (latest past).window }) in
+    eqb-true (length (requests past m)) 0
+    (filter-from (λ k. length (requests (s ∷ past) k) == 0) (missing (s ∷ past)) m
+    (among-from (after_datagram codec past moment (Ok (n, content))).asked m is)).1
 
 -- a tick that asks for a number asks again
-tick-again : (settings : Settings) (past : List Snapshot) (moment m : ℕ) → is_among (after_tick settings past moment).asked m ≡ true
-    → (length (requests past m) < MOST_REQUESTS) × (is_old settings.interval (max (latest past).now moment) (requests past m) ≡ true)
+tick-again : (settings : Settings) (past : List Snapshot) (moment m : ℕ) →
+    is_among (after_tick settings past moment).asked m ≡ true
+    → (length (requests past m) < MOST_REQUESTS)
+    × (is_old settings.interval (max (latest past).now moment) (requests past m) ≡ true)
 tick-again settings past moment m is =
     let now : ℕ = max (latest past).now moment in
-    let passes : (nat_lt (length (requests past m)) MOST_REQUESTS && is_old settings.interval now (requests past m)) ≡ true = (filter-from (λ k. nat_lt (length (requests past k)) MOST_REQUESTS && is_old settings.interval now (requests past k)) (missing past) m (among-from (after_tick settings past moment).asked m is)).1 in
-    let p : (nat_lt (length (requests past m)) MOST_REQUESTS ≡ true) × (is_old settings.interval now (requests past m) ≡ true) = and_parts (nat_lt (length (requests past m)) MOST_REQUESTS) (is_old settings.interval now (requests past m)) passes in
+    let passes : (nat_lt (length (requests past m)) MOST_REQUESTS && is_old settings.interval now (requests past m))
+        ≡ true = (filter-from (λ k.
+        nat_lt (length (requests past k)) MOST_REQUESTS && is_old settings.interval now (requests past k))
+        (missing past) m (among-from (after_tick settings past moment).asked m is)).1 in
+    let p : (nat_lt (length (requests past m)) MOST_REQUESTS ≡ true)
+        × (is_old settings.interval now (requests past m) ≡ true) =
+        and_parts (nat_lt (length (requests past m)) MOST_REQUESTS)
+        (is_old settings.interval now (requests past m)) passes in
     (ltb-true (length (requests past m)) MOST_REQUESTS p.0, p.1)
 
 -- a pull asks for nothing
-pull-asks : (codec : Meaning) (past : List Snapshot) (moment : ℕ) (o : Option Run) (m : ℕ) → is_among (after_pull codec past moment o).asked m ≡ false
+pull-asks : (codec : Meaning) (past : List Snapshot) (moment : ℕ) (o : Option Run) (m : ℕ) →
+    is_among (after_pull codec past moment o).asked m ≡ false
 pull-asks codec past moment None m = refl
 pull-asks codec past moment (Some run) m = refl
 
 -- one request more is not too many
-few-more : (s : Snapshot) (past : List Snapshot) (n : ℕ) → (is_among s.asked n ≡ true → length (requests past n) < MOST_REQUESTS) → length (requests past n) ≤ MOST_REQUESTS → length (requests (s ∷ past) n) ≤ MOST_REQUESTS
+few-more : (s : Snapshot) (past : List Snapshot) (n : ℕ) →
+    (is_among s.asked n ≡ true → length (requests past n) < MOST_REQUESTS) →
+    length (requests past n) ≤ MOST_REQUESTS → length (requests (s ∷ past) n) ≤ MOST_REQUESTS
 few-more s past n fewer few = by (is_among s.asked n) refl where
   by : (b : Bool) → is_among s.asked n ≡ b → length (requests (s ∷ past) n) ≤ MOST_REQUESTS
-  by true is = let less : length (requests past n) < MOST_REQUESTS = fewer is in let e : length (requests (s ∷ past) n) ≡ suc (length (requests past n)) = ap (λ (ms : List ℕ). length ms) (requests-more s past n is) in omega (arith, less, e)
-  by false is = let e : length (requests (s ∷ past) n) ≡ length (requests past n) = ap (λ (ms : List ℕ). length ms) (requests-none s past n is) in omega (arith, few, e)
+  by true is = let less : length (requests past n) < MOST_REQUESTS = fewer is in
+      let e : length (requests (s ∷ past) n) ≡ suc (length (requests past n)) =
+          ap (λ (ms : List ℕ). length ms) (requests-more s past n is) in omega (arith, less, e)
+  by false is = let e : length (requests (s ∷ past) n) ≡ length (requests past n) =
+      ap (λ (ms : List ℕ). length ms) (requests-none s past n is) in omega (arith, few, e)
 
-few-datagram : (codec : Meaning) (past : List Snapshot) (moment : ℕ) (v : Result (ℕ × Content) NotTaken) (m : ℕ) → length (requests past m) ≤ MOST_REQUESTS → length (requests (after_datagram codec past moment v ∷ past) m) ≤ MOST_REQUESTS
+few-datagram : (codec : Meaning) (past : List Snapshot) (moment : ℕ) (v : Result (ℕ × Content) NotTaken) (m : ℕ) →
+    length (requests past m) ≤ MOST_REQUESTS →
+    length (requests (after_datagram codec past moment v ∷ past) m) ≤ MOST_REQUESTS
 few-datagram codec past moment (Err left) m few = few
-few-datagram codec past moment (Ok (n, content)) m few = few-more (after_datagram codec past moment (Ok (n, content))) past m (λ is. let e : length (requests past m) ≡ 0 = taken-first codec past moment n content m is in omega (arith, e)) few
+few-datagram codec past moment (Ok (n, content)) m few =
+    few-more (after_datagram codec past moment (Ok (n, content))) past m
+    (λ is. let e : length (requests past m) ≡ 0 = taken-first codec past moment n content m is in
+    omega (arith, e)) few
 
 -- no number is asked for more than ten times
 pub few-requests : FewRequestsHold
@@ -64,30 +87,41 @@ unfolding snapshots
 few-requests settings codec [] n = omega arith
 few-requests settings codec (Datagram moment octets ∷ h) n =
     let past : List Snapshot = snapshots settings codec h in
-    few-datagram codec past moment (verdict settings codec (latest past).window octets) n (few-requests settings codec h n)
+    few-datagram codec past moment (verdict settings codec (latest past).window octets) n
+    (few-requests settings codec h n)
 few-requests settings codec (Tick moment ∷ h) n =
     let past : List Snapshot = snapshots settings codec h in
-    few-more (after_tick settings past moment) past n (λ is. (tick-again settings past moment n is).0) (few-requests settings codec h n)
+    few-more (after_tick settings past moment) past n (λ is. (tick-again settings past moment n is).0)
+    (few-requests settings codec h n)
 few-requests settings codec (Pull moment ∷ h) n =
     let past : List Snapshot = snapshots settings codec h in
     let s : Snapshot = after_pull codec past moment (next_run (latest past)) in
-    few-more s past n (λ is. absurd (true≢false (sym is ∙ pull-asks codec past moment (next_run (latest past)) n))) (few-requests settings codec h n)
+    few-more s past n (λ is. absurd (true≢false (sym is ∙ pull-asks codec past moment (next_run (latest past)) n)))
+    (few-requests settings codec h n)
 
 -- a moment more, of moments that lie apart
-apart-more : (interval now : ℕ) (moments : List ℕ) → (length moments ≡ 0) ⊎ (is_old interval now moments ≡ true) → AreApart interval moments → AreApart interval (now ∷ moments)
+apart-more : (interval now : ℕ) (moments : List ℕ) → (length moments ≡ 0) ⊎ (is_old interval now moments ≡ true) →
+    AreApart interval moments → AreApart interval (now ∷ moments)
 apart-more interval now [] either apart = tt
 apart-more interval now (last ∷ earlier) (inl none) apart = absurd (omega (arith, none))
 apart-more interval now (last ∷ earlier) (inr old) apart = (leb-true (last + interval) now old, apart)
 
-apart-step : (interval : ℕ) (s : Snapshot) (past : List Snapshot) (n : ℕ) → (is_among s.asked n ≡ true → (length (requests past n) ≡ 0) ⊎ (is_old interval s.now (requests past n) ≡ true)) → AreApart interval (requests past n) → AreApart interval (requests (s ∷ past) n)
+apart-step : (interval : ℕ) (s : Snapshot) (past : List Snapshot) (n : ℕ) →
+    (is_among s.asked n ≡ true → (length (requests past n) ≡ 0) ⊎ (is_old interval s.now (requests past n) ≡ true)) →
+    AreApart interval (requests past n) → AreApart interval (requests (s ∷ past) n)
 apart-step interval s past n old apart = by (is_among s.asked n) refl where
   by : (b : Bool) → is_among s.asked n ≡ b → AreApart interval (requests (s ∷ past) n)
-  by true is = subst (AreApart interval) (sym (requests-more s past n is)) (apart-more interval s.now (requests past n) (old is) apart)
+  by true is = subst (AreApart interval) (sym (requests-more s past n is))
+      (apart-more interval s.now (requests past n) (old is) apart)
   by false is = subst (AreApart interval) (sym (requests-none s past n is)) apart
 
-apart-datagram : (interval : ℕ) (codec : Meaning) (past : List Snapshot) (moment : ℕ) (v : Result (ℕ × Content) NotTaken) (m : ℕ) → AreApart interval (requests past m) → AreApart interval (requests (after_datagram codec past moment v ∷ past) m)
+apart-datagram : (interval : ℕ) (codec : Meaning) (past : List Snapshot) (moment : ℕ)
+    (v : Result (ℕ × Content) NotTaken) (m : ℕ) → AreApart interval (requests past m) →
+    AreApart interval (requests (after_datagram codec past moment v ∷ past) m)
 apart-datagram interval codec past moment (Err left) m apart = apart
-apart-datagram interval codec past moment (Ok (n, content)) m apart = apart-step interval (after_datagram codec past moment (Ok (n, content))) past m (λ is. inl (taken-first codec past moment n content m is)) apart
+apart-datagram interval codec past moment (Ok (n, content)) m apart =
+    apart-step interval (after_datagram codec past moment (Ok (n, content))) past m
+    (λ is. inl (taken-first codec past moment n content m is)) apart
 
 -- two requests of a number lie at least the interval apart
 pub requests-apart : RequestsApartHold
@@ -95,17 +129,22 @@ unfolding snapshots
 requests-apart settings codec [] n = tt
 requests-apart settings codec (Datagram moment octets ∷ h) n =
     let past : List Snapshot = snapshots settings codec h in
-    apart-datagram settings.interval codec past moment (verdict settings codec (latest past).window octets) n (requests-apart settings codec h n)
+    apart-datagram settings.interval codec past moment (verdict settings codec (latest past).window octets) n
+    (requests-apart settings codec h n)
 requests-apart settings codec (Tick moment ∷ h) n =
     let past : List Snapshot = snapshots settings codec h in
-    apart-step settings.interval (after_tick settings past moment) past n (λ is. inr (tick-again settings past moment n is).1) (requests-apart settings codec h n)
+    apart-step settings.interval (after_tick settings past moment) past n
+    (λ is. inr (tick-again settings past moment n is).1) (requests-apart settings codec h n)
 requests-apart settings codec (Pull moment ∷ h) n =
     let past : List Snapshot = snapshots settings codec h in
     let s : Snapshot = after_pull codec past moment (next_run (latest past)) in
-    apart-step settings.interval s past n (λ is. absurd (true≢false (sym is ∙ pull-asks codec past moment (next_run (latest past)) n))) (requests-apart settings codec h n)
+    apart-step settings.interval s past n
+    (λ is. absurd (true≢false (sym is ∙ pull-asks codec past moment (next_run (latest past)) n)))
+    (requests-apart settings codec h n)
 
 -- what a tick asks for is missing after it
-asked-ticked : (settings : Settings) (past : List Snapshot) (moment n : ℕ) → is_among (after_tick settings past moment).asked n ≡ true → IsMissing (after_tick settings past moment ∷ past) n
+asked-ticked : (settings : Settings) (past : List Snapshot) (moment n : ℕ) →
+    is_among (after_tick settings past moment).asked n ≡ true → IsMissing (after_tick settings past moment ∷ past) n
 asked-ticked settings past moment n is =
     let was : IsMissing past n = tick-asked-missing settings past moment n is in
     let now : ℕ = max (latest past).now moment in
@@ -118,14 +157,23 @@ asked-ticked settings past moment n is =
       absent = was.absent;
       not_passed = was.not_passed;
       not_lost = or_from (is_among lost n) (is_lost past n) (false_from_ne_true (is_among lost n) (λ d.
-          let passes : ((length (requests past n) == MOST_REQUESTS) && is_old settings.interval now (requests past n)) ≡ true = (filter-from (λ k. (length (requests past k) == MOST_REQUESTS) && is_old settings.interval now (requests past k)) (missing past) n (among-from lost n d)).1 in
-          let ten : length (requests past n) ≡ MOST_REQUESTS = eqb-true (length (requests past n)) MOST_REQUESTS (and_parts (length (requests past n) == MOST_REQUESTS) (is_old settings.interval now (requests past n)) passes).0 in
+          let passes : ((length (requests past n) == MOST_REQUESTS) && is_old settings.interval now (requests past n))
+              ≡ true = (filter-from (λ k.
+              (length (requests past k) == MOST_REQUESTS) && is_old settings.interval now (requests past k))
+              (missing past) n (among-from lost n d)).1 in
+          let ten : length (requests past n) ≡ MOST_REQUESTS =
+              eqb-true (length (requests past n)) MOST_REQUESTS
+              (and_parts (length (requests past n) == MOST_REQUESTS)
+              (is_old settings.interval now (requests past n)) passes).0 in
           absurd (omega (arith, ten, fewer)))) was.not_lost;
     }
 
-asked-datagram : (codec : Meaning) (past : List Snapshot) (moment : ℕ) (v : Result (ℕ × Content) NotTaken) (m : ℕ) → is_among (after_datagram codec past moment v).asked m ≡ true → IsMissing (after_datagram codec past moment v ∷ past) m
+asked-datagram : (codec : Meaning) (past : List Snapshot) (moment : ℕ) (v : Result (ℕ × Content) NotTaken) (m : ℕ) →
+    is_among (after_datagram codec past moment v).asked m ≡ true →
+    IsMissing (after_datagram codec past moment v ∷ past) m
 asked-datagram codec past moment (Err left) m is = absurd (true≢false (sym is))
-asked-datagram codec past moment (Ok (n, content)) m is = missing-asked codec past moment n content m (taken-asked-missing codec past moment n content m is)
+asked-datagram codec past moment (Ok (n, content)) m is =
+    missing-asked codec past moment n content m (taken-asked-missing codec past moment n content m is)
 
 -- what an event asks for is missing after it
 pub asked-are-missing : AskedAreMissingHolds
@@ -143,19 +191,25 @@ asked-are-missing settings codec (Pull moment ∷ h) n c =
     let s : Snapshot = after_pull codec past moment (next_run (latest past)) in
     absurd (true≢false (sym (among-to s.asked n c) ∙ pull-asks codec past moment (next_run (latest past)) n))
 
-module _ (settings : Settings) (codec : Meaning) (h : List Event) (n : ℕ) (lost : is_lost (snapshots settings codec h) n ≡ true) where
+module _ (settings : Settings) (codec : Meaning) (h : List Event) (n : ℕ)
+    (lost : is_lost (snapshots settings codec h) n ≡ true) where
   stays-lost : (e : Event) → is_lost (snapshots settings codec (e ∷ h)) n ≡ true
   unfolding snapshots
-  stays-lost e = or_right (is_among (next settings codec (snapshots settings codec h) e).lost n) (is_lost (snapshots settings codec h) n) lost
+  stays-lost e = or_right (is_among (next settings codec (snapshots settings codec h) e).lost n)
+      (is_lost (snapshots settings codec h) n) lost
 
-  never-taken : (octets : List ℕ) (content : Content) → verdict settings codec (latest (snapshots settings codec h)).window octets ≢ Ok (n, content)
+  never-taken : (octets : List ℕ) (content : Content) →
+      verdict settings codec (latest (snapshots settings codec h)).window octets ≢ Ok (n, content)
   never-taken octets content is =
       let window : Contents Content = (latest (snapshots settings codec h)).window in
-      let fresh : IsFresh window n = fresh-is window n (verdict-taken settings codec window octets n content is).fresh in
-      let k : (k : ℕ) × (window.newest ≡ Some k) × (n < k) = some-value (λ j. n < j) window.newest ((sane settings codec h).lost n lost) in
+      let fresh : IsFresh window n =
+          fresh-is window n (verdict-taken settings codec window octets n content is).fresh in
+      let k : (k : ℕ) × (window.newest ≡ Some k) × (n < k) =
+          some-value (λ j. n < j) window.newest ((sane settings codec h).lost n lost) in
       let within : k.0 < n + WINDOW = leb-false (n + WINDOW) k.0 (ap (λ o. is_too_old o n) (sym k.1) ∙ fresh.young) in
       let below : n < k.0 = k.2 in
-      let inside : is_inside window.newest n ≡ true = ap (λ o. is_inside o n) k.1 ∙ order-window k.0 n within (omega (arith, below)) in
+      let inside : is_inside window.newest n ≡ true =
+          ap (λ o. is_inside o n) k.1 ∙ order-window k.0 n within (omega (arith, below)) in
       true≢false (sym lost ∙ sym ((sane settings codec h).dead n inside) ∙ fresh.alive)
 
 -- what was given up stays so, and no datagram is taken under it

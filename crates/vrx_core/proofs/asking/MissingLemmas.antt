@@ -15,10 +15,14 @@ module _ (past : List Snapshot) (n : ℕ) where
   pub missing-from : Contains (missing past) n → IsMissing past n
   missing-from c =
       let s : Snapshot = latest past in
-      let p : Contains (numbers_between s.window.first s.window.newest) n × (is_missing past n ≡ true) = filter-from (is_missing past) (numbers_between s.window.first s.window.newest) n c in
+      let p : Contains (numbers_between s.window.first s.window.newest) n × (is_missing past n ≡ true) =
+          filter-from (is_missing past) (numbers_between s.window.first s.window.newest) n c in
       let lies : LiesBetween s.window.first s.window.newest n = between-from s.window.first s.window.newest n p.0 in
-      let two : ((not (is_available n s.window.packets) && not (is_passed s.front n)) ≡ true) × (not (is_lost past n) ≡ true) = and_parts (not (is_available n s.window.packets) && not (is_passed s.front n)) (not (is_lost past n)) p.1 in
-      let one : (not (is_available n s.window.packets) ≡ true) × (not (is_passed s.front n) ≡ true) = and_parts (not (is_available n s.window.packets)) (not (is_passed s.front n)) two.0 in
+      let two : ((not (is_available n s.window.packets) && not (is_passed s.front n)) ≡ true)
+          × (not (is_lost past n) ≡ true) =
+          and_parts (not (is_available n s.window.packets) && not (is_passed s.front n)) (not (is_lost past n)) p.1 in
+      let one : (not (is_available n s.window.packets) ≡ true) × (not (is_passed s.front n) ≡ true) =
+          and_parts (not (is_available n s.window.packets)) (not (is_passed s.front n)) two.0 in
       record {
         after_first = lies.after_first;
         before_newest = lies.before_newest;
@@ -33,15 +37,20 @@ module _ (past : List Snapshot) (n : ℕ) where
   missing-to m =
       let s : Snapshot = latest past in
       filter-to (is_missing past) (numbers_between s.window.first s.window.newest) n
-      (between-to s.window.first s.window.newest n (record { after_first = m.after_first; before_newest = m.before_newest; inside = m.inside }))
+      (between-to s.window.first s.window.newest n
+      (record { after_first = m.after_first; before_newest = m.before_newest; inside = m.inside }))
       (and_from (not (is_available n s.window.packets) && not (is_passed s.front n)) (not (is_lost past n))
-      (and_from (not (is_available n s.window.packets)) (not (is_passed s.front n)) (not_from_false (is_available n s.window.packets) m.absent) (not_from_false (is_passed s.front n) m.not_passed))
+      (and_from (not (is_available n s.window.packets)) (not (is_passed s.front n))
+      (not_from_false (is_available n s.window.packets) m.absent) (not_from_false (is_passed s.front n) m.not_passed))
       (not_from_false (is_lost past n) m.not_lost))
 
 -- they rise
 pub missing-rises : (past : List Snapshot) → Rises (λ n. n) (missing past)
-missing-rises past = let s : Snapshot = latest past in rises-filter (λ n. n) (is_missing past) (numbers_between s.window.first s.window.newest) (between-rises s.window.first s.window.newest)
+missing-rises past = let s : Snapshot = latest past in
+    rises-filter (λ n. n) (is_missing past) (numbers_between s.window.first s.window.newest)
+    (between-rises s.window.first s.window.newest)
 
 -- the missing numbers are these
 pub missing-are : MissingHolds
-missing-are settings codec h n = (missing-from (snapshots settings codec h) n, missing-to (snapshots settings codec h) n)
+missing-are settings codec h n =
+    (missing-from (snapshots settings codec h) n, missing-to (snapshots settings codec h) n)

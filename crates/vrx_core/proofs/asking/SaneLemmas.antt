@@ -5,12 +5,12 @@ use Rattle.std.proofs.lemmas.Bool.{and_parts, or_cases, cases_lt, cases_Bool, fa
 use Rattle.vrx_num.specs.declared.limits.TheConstants.{MOST_REQUESTS, WINDOW}
 use Rattle.vrx_codec.specs.Meaning.{Meaning}
 use Rattle.vrx_window.specs.Content.{Content}
-use Rattle.vrx_window.specs.Window.{Contents, at, in_window, is_available, is_dead, is_inside, newest_with, placed, placed_in}
+use Rattle.vrx_window.specs.Window.{Contents, at, in_window, is_available, is_dead, is_inside, newest_with, after_placing, entries_with}
 use Rattle.vrx_frames.specs.Completed.{is_among}
 use Rattle.vrx_frames.specs.Run.{Run, is_passed}
 use Rattle.vrx_core.specs.machine.Asking.{IsMissing}
 use Rattle.vrx_core.specs.machine.GivenUp.{is_lost, numbers_left}
-use Rattle.vrx_core.specs.machine.Machine.{Snapshot, latest, opening, next_run, settled, after_datagram, after_pull, after_tick, snapshots}
+use Rattle.vrx_core.specs.machine.Machine.{Snapshot, latest, opening, next_run, after_settling, after_datagram, after_pull, after_tick, snapshots}
 use Rattle.vrx_core.specs.machine.Request.{is_old, missing, requests}
 use Rattle.vrx_core.specs.machine.Snapshot.{moved}
 use Rattle.vrx_core.specs.machine.Verdict.{verdict}
@@ -35,7 +35,8 @@ IsBelow newest n = IsSomeAnd newest (λ k. n < k)
 
 -- there is a first number and a newest one that isn't below it, or neither of them
 abbrev pub IsStarted : Contents Content → Type 0
-IsStarted window = ((window.first ≡ None) × (window.newest ≡ None)) ⊎ ((f : ℕ) × (k : ℕ) × (window.first ≡ Some f) × (window.newest ≡ Some k) × (f ≤ k))
+IsStarted window = ((window.first ≡ None) × (window.newest ≡ None))
+    ⊎ ((f : ℕ) × (k : ℕ) × (window.first ≡ Some f) × (window.newest ≡ Some k) × (f ≤ k))
 
 -- what holds of what was left after each event
 pub record IsSane (past : List Snapshot) : Type 0 where
@@ -43,7 +44,8 @@ pub record IsSane (past : List Snapshot) : Type 0 where
   pub asked : (n : ℕ) → was_asked past n ≡ true → IsBelow (latest past).window.newest n
   pub lost : (n : ℕ) → is_lost past n ≡ true → IsBelow (latest past).window.newest n
   pub inside : (n : ℕ) → is_dead n (latest past).window.dead ≡ true → is_inside (latest past).window.newest n ≡ true
-  pub dead : (n : ℕ) → is_inside (latest past).window.newest n ≡ true → is_dead n (latest past).window.dead ≡ is_lost past n
+  pub dead : (n : ℕ) → is_inside (latest past).window.newest n ≡ true →
+      is_dead n (latest past).window.dead ≡ is_lost past n
   pub there : (k : ℕ) → (latest past).window.newest ≡ Some k → is_available k (latest past).window.packets ≡ true
 
 -- a number of which something holds
@@ -57,7 +59,8 @@ below-with None n m below = absurd below
 below-with (Some k) n m below = let less : m < k = below in omega (arith, less)
 
 -- the newest number once one is placed is that one, or the one before, and is above it
-pub newest-either : (newest : Option ℕ) (n : ℕ) → (newest_with newest n ≡ n) ⊎ ((k : ℕ) × (newest ≡ Some k) × (newest_with newest n ≡ k) × (n < k))
+pub newest-either : (newest : Option ℕ) (n : ℕ) →
+    (newest_with newest n ≡ n) ⊎ ((k : ℕ) × (newest ≡ Some k) × (newest_with newest n ≡ k) × (n < k))
 newest-either None n = inl refl
 newest-either (Some k) n = elim (cases_lt n k) [
   | inl less ↦ inr (k, refl, omega (arith, less), less)
@@ -70,7 +73,8 @@ available-there None h = absurd (true≢false (sym h))
 available-there (Some content) h = (content, refl)
 
 -- a number inside the new window that wasn't inside the old one isn't below the newest
-inside-before : (newest : Option ℕ) (n m : ℕ) → in_window (newest_with newest n) m ≡ true → is_inside newest m ≡ false → IsBelow newest m → ⊥
+inside-before : (newest : Option ℕ) (n m : ℕ) → in_window (newest_with newest n) m ≡ true →
+    is_inside newest m ≡ false → IsBelow newest m → ⊥
 inside-before None n m new old below = below
 inside-before (Some k) n m new old below =
     let less : m < k = below in
@@ -93,14 +97,19 @@ sane-opening = record {
 }
 
 -- so it is after an event that leaves the window, and gives up and asks for nothing
-pub sane-still : (s : Snapshot) (past : List Snapshot) → s.window ≡ (latest past).window → s.lost ≡ [] → s.asked ≡ [] → IsSane past → IsSane (s ∷ past)
+pub sane-still : (s : Snapshot) (past : List Snapshot) → s.window ≡ (latest past).window → s.lost ≡ [] →
+    s.asked ≡ [] → IsSane past → IsSane (s ∷ past)
 sane-still s past same none none' sane = record {
   started = subst IsStarted (sym same) sane.started;
-  asked = λ n h. subst (λ (w : Contents Content). IsBelow w.newest n) (sym same) (sane.asked n (sym (asked-is n) ∙ h));
+  asked =
+      λ n h. subst (λ (w : Contents Content). IsBelow w.newest n) (sym same) (sane.asked n (sym (asked-is n) ∙ h));
   lost = λ n h. subst (λ (w : Contents Content). IsBelow w.newest n) (sym same) (sane.lost n (sym (lost-is n) ∙ h));
-  inside = λ n. subst (λ (w : Contents Content). is_dead n w.dead ≡ true → is_inside w.newest n ≡ true) (sym same) (sane.inside n);
-  dead = λ n. subst (λ (w : Contents Content). is_inside w.newest n ≡ true → is_dead n w.dead ≡ is_lost (s ∷ past) n) (sym same) (λ h. sane.dead n h ∙ sym (lost-is n));
-  there = λ k. subst (λ (w : Contents Content). w.newest ≡ Some k → is_available k w.packets ≡ true) (sym same) (sane.there k);
+  inside = λ n. subst (λ (w : Contents Content). is_dead n w.dead ≡ true → is_inside w.newest n ≡ true) (sym same)
+      (sane.inside n);
+  dead = λ n. subst (λ (w : Contents Content). is_inside w.newest n ≡ true → is_dead n w.dead ≡ is_lost (s ∷ past) n)
+      (sym same) (λ h. sane.dead n h ∙ sym (lost-is n));
+  there = λ k. subst (λ (w : Contents Content). w.newest ≡ Some k → is_available k w.packets ≡ true) (sym same)
+      (sane.there k);
 } where
   asked-is : (n : ℕ) → was_asked (s ∷ past) n ≡ was_asked past n
   asked-is n = ap (λ ns. is_among ns n || was_asked past n) none'
@@ -117,11 +126,16 @@ module _ (settings : Settings) (past : List Snapshot) (moment : ℕ) where
 
   -- what a tick gives up was missing
   pub tick-lost-missing : (n : ℕ) → is_among ticked.lost n ≡ true → IsMissing past n
-  tick-lost-missing n h = missing-from past n (filter-from (λ m. (length (requests past m) == MOST_REQUESTS) && is_old settings.interval tick_now (requests past m)) (missing past) n (among-from ticked.lost n h)).0
+  tick-lost-missing n h = missing-from past n
+      (filter-from (λ m. (length (requests past m) == MOST_REQUESTS) && is_old settings.interval tick_now
+      (requests past m)) (missing past) n (among-from ticked.lost n h)).0
 
   -- and so was what it asks for
   pub tick-asked-missing : (n : ℕ) → is_among ticked.asked n ≡ true → IsMissing past n
-  tick-asked-missing n h = missing-from past n (filter-from (λ m. nat_lt (length (requests past m)) MOST_REQUESTS && is_old settings.interval tick_now (requests past m)) (missing past) n (among-from ticked.asked n h)).0
+  tick-asked-missing n h =
+      missing-from past n (filter-from
+      (λ m. nat_lt (length (requests past m)) MOST_REQUESTS && is_old settings.interval tick_now (requests past m))
+      (missing past) n (among-from ticked.asked n h)).0
 
   -- so it is after a tick
   pub sane-ticked : IsSane past → IsSane (ticked ∷ past)
@@ -135,14 +149,17 @@ module _ (settings : Settings) (past : List Snapshot) (moment : ℕ) where
       | inl new ↦ (tick-lost-missing n new).before_newest
       | inr old ↦ sane.lost n old
     ];
-    inside = λ n h. elim (or_cases (is_among ticked.lost n) (is_dead n (latest past).window.dead) (sym (among-withs ticked.lost (latest past).window.dead n) ∙ h)) [
+    inside = λ n h. elim (or_cases (is_among ticked.lost n) (is_dead n (latest past).window.dead)
+        (sym (among-withs ticked.lost (latest past).window.dead n) ∙ h)) [
       | inl new ↦ inside-is (latest past).window.newest n (tick-lost-missing n new).inside
       | inr old ↦ sane.inside n old
     ];
-    dead = λ n h. among-withs ticked.lost (latest past).window.dead n ∙ ap (λ b. is_among ticked.lost n || b) (sane.dead n h);
+    dead = λ n h. among-withs ticked.lost (latest past).window.dead n
+        ∙ ap (λ b. is_among ticked.lost n || b) (sane.dead n h);
     there = sane.there;
   } where
-    inside-is : (newest : Option ℕ) (n : ℕ) → IsSomeAnd newest (λ k. (k < n + WINDOW) × (n ≤ k)) → is_inside newest n ≡ true
+    inside-is : (newest : Option ℕ) (n : ℕ) → IsSomeAnd newest (λ k. (k < n + WINDOW) × (n ≤ k)) →
+        is_inside newest n ≡ true
     inside-is None n h = absurd h
     inside-is (Some k) n h = order-window k n h.0 h.1
 
@@ -152,23 +169,33 @@ module _ (codec : Meaning) (past : List Snapshot) (moment n : ℕ) (content : Co
   taken = after_datagram codec past moment (Ok (n, content))
 
   abbrev taken_settled : Snapshot
-  taken_settled = settled codec past (record (moved (latest past) moment) { window = placed n content (latest past).window })
+  taken_settled = after_settling codec past
+      (record (moved (latest past) moment) { window = after_placing n content (latest past).window })
 
   abbrev new_newest : ℕ
   new_newest = newest_with (latest past).window.newest n
 
   -- what a datagram asks for is missing, but for what it gives up
   pub taken-asked-missing : (m : ℕ) → is_among taken.asked m ≡ true → IsMissing (taken_settled ∷ past) m
-  taken-asked-missing m h = missing-from (taken_settled ∷ past) m (filter-from (λ k. length (requests (taken_settled ∷ past) k) == 0) (missing (taken_settled ∷ past)) m (among-from taken.asked m h)).0
+  taken-asked-missing m h =
+      missing-from (taken_settled ∷ past) m
+      (filter-from (λ k. length (requests (taken_settled ∷ past) k) == 0) (missing (taken_settled ∷ past)) m
+      (among-from taken.asked m h)).0
 
   -- what it gives up leaves the window
-  pub taken-lost-leaves : (m : ℕ) → is_among taken.lost m ≡ true → Leaves (Some (unwrap_or (latest past).window.first n)) (latest past).window.newest new_newest m
-  taken-lost-leaves m h = left-from (Some (unwrap_or (latest past).window.first n)) (latest past).window.newest new_newest m
-      (filter-from (λ k. not (is_passed taken.front k) && not (is_lost past k)) (numbers_left (Some (unwrap_or (latest past).window.first n)) (latest past).window.newest (Some new_newest)) m (among-from taken.lost m h)).0
+  pub taken-lost-leaves : (m : ℕ) → is_among taken.lost m ≡ true →
+      Leaves (Some (unwrap_or (latest past).window.first n)) (latest past).window.newest new_newest m
+  taken-lost-leaves m h =
+      left-from (Some (unwrap_or (latest past).window.first n)) (latest past).window.newest new_newest m
+      (filter-from (λ k. not (is_passed taken.front k) && not (is_lost past k))
+      (numbers_left (Some (unwrap_or (latest past).window.first n)) (latest past).window.newest (Some new_newest)) m
+      (among-from taken.lost m h)).0
 
   -- what is left in the window isn't given up by it
   pub taken-not-lost : (m : ℕ) → new_newest < m + WINDOW → is_among taken.lost m ≡ false
-  taken-not-lost m within = false_from_ne_true (is_among taken.lost m) (λ h. let left : m + WINDOW ≤ new_newest = (taken-lost-leaves m h).left in absurd (omega (arith, left, within)))
+  taken-not-lost m within =
+      false_from_ne_true (is_among taken.lost m)
+      (λ h. let left : m + WINDOW ≤ new_newest = (taken-lost-leaves m h).left in absurd (omega (arith, left, within)))
 
   -- so it is given up after it if it was before
   pub taken-lost-is : (m : ℕ) → new_newest < m + WINDOW → is_lost (taken ∷ past) m ≡ is_lost past m
@@ -186,46 +213,68 @@ module _ (codec : Meaning) (past : List Snapshot) (moment n : ℕ) (content : Co
       | inl new ↦ let left : m + WINDOW ≤ new_newest = (taken-lost-leaves m new).left in omega (arith, left)
       | inr old ↦ below-with (latest past).window.newest n m (sane.lost m old)
     ];
-    inside = λ m h. (and_parts (in_window new_newest m) (is_dead m (latest past).window.dead) (sym (among-filter (in_window new_newest) (latest past).window.dead m) ∙ h)).0;
-    dead = λ m h. among-filter (in_window new_newest) (latest past).window.dead m ∙ ap (λ b. b && is_dead m (latest past).window.dead) h ∙ dead-before m h (cases_Bool (is_inside (latest past).window.newest m)) ∙ sym (taken-lost-is m (window-order new_newest m h).0);
+    inside = λ m h. (and_parts (in_window new_newest m) (is_dead m (latest past).window.dead)
+        (sym (among-filter (in_window new_newest) (latest past).window.dead m) ∙ h)).0;
+    dead = λ m h. among-filter (in_window new_newest) (latest past).window.dead m
+        ∙ ap (λ b. b && is_dead m (latest past).window.dead) h
+        ∙ dead-before m h (cases_Bool (is_inside (latest past).window.newest m))
+        ∙ sym (taken-lost-is m (window-order new_newest m h).0);
     there = λ k h. newest-there k h (newest-either (latest past).window.newest n);
   } where
     first-upto : IsStarted (latest past).window → unwrap_or (latest past).window.first n ≤ new_newest
-    first-upto (inl none) = let a : unwrap_or (latest past).window.first n ≡ n = ap (λ o. unwrap_or o n) none.0 in let b : new_newest ≡ n = ap (λ o. newest_with o n) none.1 in omega (arith, a, b)
+    first-upto (inl none) = let a : unwrap_or (latest past).window.first n ≡ n = ap (λ o. unwrap_or o n) none.0 in
+        let b : new_newest ≡ n = ap (λ o. newest_with o n) none.1 in omega (arith, a, b)
     first-upto (inr some) =
         let a : unwrap_or (latest past).window.first n ≡ some.0 = ap (λ o. unwrap_or o n) some.2 in
         let b : new_newest ≡ max some.1 n = ap (λ o. newest_with o n) some.3 in
         let upto : some.0 ≤ some.1 = some.4 in
         omega (arith, a, b, upto)
 
-    dead-before : (m : ℕ) → in_window new_newest m ≡ true → (is_inside (latest past).window.newest m ≡ true) ⊎ (is_inside (latest past).window.newest m ≡ false) → is_dead m (latest past).window.dead ≡ is_lost past m
+    dead-before : (m : ℕ) → in_window new_newest m ≡ true →
+        (is_inside (latest past).window.newest m ≡ true) ⊎ (is_inside (latest past).window.newest m ≡ false) →
+        is_dead m (latest past).window.dead ≡ is_lost past m
     dead-before m h (inl within) = sane.dead m within
     dead-before m h (inr out) =
         false_from_ne_true (is_dead m (latest past).window.dead) (λ d. true≢false (sym (sane.inside m d) ∙ out))
-        ∙ sym (false_from_ne_true (is_lost past m) (λ l. inside-before (latest past).window.newest n m h out (sane.lost m l)))
+        ∙ sym (false_from_ne_true (is_lost past m)
+        (λ l. inside-before (latest past).window.newest n m h out (sane.lost m l)))
 
-    here : is_available n (placed_in new_newest n content (latest past).window.packets) ≡ true
+    here : is_available n (entries_with new_newest n content (latest past).window.packets) ≡ true
     here = ap is_some (placed_new new_newest n content (latest past).window.packets)
 
-    newest-there : (k : ℕ) → Some new_newest ≡ Some k → (new_newest ≡ n) ⊎ ((j : ℕ) × ((latest past).window.newest ≡ Some j) × (new_newest ≡ j) × (n < j)) → is_available k (placed_in new_newest n content (latest past).window.packets) ≡ true
-    newest-there k is (inl same) = let e : k ≡ n = sym (same_some new_newest k is) ∙ same in ap (λ j. is_available j (placed_in new_newest n content (latest past).window.packets)) e ∙ here
+    newest-there : (k : ℕ) → Some new_newest ≡ Some k →
+        (new_newest ≡ n) ⊎ ((j : ℕ) × ((latest past).window.newest ≡ Some j) × (new_newest ≡ j) × (n < j)) →
+        is_available k (entries_with new_newest n content (latest past).window.packets) ≡ true
+    newest-there k is (inl same) = let e : k ≡ n = sym (same_some new_newest k is) ∙ same in
+        ap (λ j. is_available j (entries_with new_newest n content (latest past).window.packets)) e ∙ here
     newest-there k is (inr p) =
         let e : k ≡ p.0 = sym (same_some new_newest k is) ∙ p.2 in
         let less : n < p.0 = p.3 in
-        let c : (c : Content) × (at p.0 (latest past).window.packets ≡ Some c) = available-there (at p.0 (latest past).window.packets) (sane.there p.0 p.1) in
+        let c : (c : Content) × (at p.0 (latest past).window.packets ≡ Some c) =
+            available-there (at p.0 (latest past).window.packets) (sane.there p.0 p.1) in
         let upto : new_newest ≡ p.0 = p.2 in
-        ap (λ j. is_available j (placed_in new_newest n content (latest past).window.packets)) e
-        ∙ ap is_some (placed_old new_newest n p.0 content c.0 (latest past).window.packets (λ same. absurd (omega (arith, same, less))) (order-window new_newest p.0 (omega (arith, upto)) (omega (arith, upto))) c.1)
+        ap (λ j. is_available j (entries_with new_newest n content (latest past).window.packets)) e
+        ∙ ap is_some (placed_old new_newest n p.0 content c.0 (latest past).window.packets
+        (λ same. absurd (omega (arith, same, less)))
+        (order-window new_newest p.0 (omega (arith, upto)) (omega (arith, upto))) c.1)
 
 -- so it is after a datagram
-sane-datagram : (settings : Settings) (codec : Meaning) (past : List Snapshot) (moment : ℕ) (octets : List ℕ) (v : Result (ℕ × Content) NotTaken) → verdict settings codec (latest past).window octets ≡ v → IsSane past → IsSane (after_datagram codec past moment v ∷ past)
-sane-datagram settings codec past moment octets (Err left) is sane = sane-still (moved (latest past) moment) past refl refl refl sane
-sane-datagram settings codec past moment octets (Ok (n, content)) is sane = sane-taken codec past moment n content (fresh-is (latest past).window n (verdict-taken settings codec (latest past).window octets n content is).fresh) sane
+sane-datagram : (settings : Settings) (codec : Meaning) (past : List Snapshot) (moment : ℕ) (octets : List ℕ)
+    (v : Result (ℕ × Content) NotTaken) → verdict settings codec (latest past).window octets ≡ v → IsSane past →
+    IsSane (after_datagram codec past moment v ∷ past)
+sane-datagram settings codec past moment octets (Err left) is sane =
+    sane-still (moved (latest past) moment) past refl refl refl sane
+sane-datagram settings codec past moment octets (Ok (n, content)) is sane =
+    sane-taken codec past moment n content
+    (fresh-is (latest past).window n (verdict-taken settings codec (latest past).window octets n content is).fresh)
+    sane
 
 -- and after a pull
-sane-pulled : (codec : Meaning) (past : List Snapshot) (moment : ℕ) (o : Option Run) → IsSane past → IsSane (after_pull codec past moment o ∷ past)
+sane-pulled : (codec : Meaning) (past : List Snapshot) (moment : ℕ) (o : Option Run) → IsSane past →
+    IsSane (after_pull codec past moment o ∷ past)
 sane-pulled codec past moment None sane = sane-still (moved (latest past) moment) past refl refl refl sane
-sane-pulled codec past moment (Some run) sane = sane-still (after_pull codec past moment (Some run)) past refl refl refl sane
+sane-pulled codec past moment (Some run) sane =
+    sane-still (after_pull codec past moment (Some run)) past refl refl refl sane
 
 -- so it is after each history
 pub sane : (settings : Settings) (codec : Meaning) (h : List Event) → IsSane (snapshots settings codec h)
@@ -233,27 +282,33 @@ unfolding snapshots
 sane settings codec [] = sane-opening
 sane settings codec (Datagram moment octets ∷ h) =
     let past : List Snapshot = snapshots settings codec h in
-    sane-datagram settings codec past moment octets (verdict settings codec (latest past).window octets) refl (sane settings codec h)
-sane settings codec (Tick moment ∷ h) = sane-ticked settings (snapshots settings codec h) moment (sane settings codec h)
+    sane-datagram settings codec past moment octets (verdict settings codec (latest past).window octets) refl
+    (sane settings codec h)
+sane settings codec (Tick moment ∷ h) =
+    sane-ticked settings (snapshots settings codec h) moment (sane settings codec h)
 sane settings codec (Pull moment ∷ h) =
     let past : List Snapshot = snapshots settings codec h in
     sane-pulled codec past moment (next_run (latest past)) (sane settings codec h)
 
 module _ (settings : Settings) (codec : Meaning) (h : List Event) where
   -- a number that was asked for is below the newest
-  pub asked-below : (n : ℕ) → was_asked (snapshots settings codec h) n ≡ true → IsBelow (latest (snapshots settings codec h)).window.newest n
+  pub asked-below : (n : ℕ) → was_asked (snapshots settings codec h) n ≡ true →
+      IsBelow (latest (snapshots settings codec h)).window.newest n
   asked-below = (sane settings codec h).asked
 
   -- and so is one that was given up
-  pub lost-below : (n : ℕ) → is_lost (snapshots settings codec h) n ≡ true → IsBelow (latest (snapshots settings codec h)).window.newest n
+  pub lost-below : (n : ℕ) → is_lost (snapshots settings codec h) n ≡ true →
+      IsBelow (latest (snapshots settings codec h)).window.newest n
   lost-below = (sane settings codec h).lost
 
   -- what the window has as given up lies in it
-  pub dead-inside : (n : ℕ) → is_dead n (latest (snapshots settings codec h)).window.dead ≡ true → is_inside (latest (snapshots settings codec h)).window.newest n ≡ true
+  pub dead-inside : (n : ℕ) → is_dead n (latest (snapshots settings codec h)).window.dead ≡ true →
+      is_inside (latest (snapshots settings codec h)).window.newest n ≡ true
   dead-inside = (sane settings codec h).inside
 
   -- and these are the numbers in it that were given up
-  pub dead-lost : (n : ℕ) → is_inside (latest (snapshots settings codec h)).window.newest n ≡ true → is_dead n (latest (snapshots settings codec h)).window.dead ≡ is_lost (snapshots settings codec h) n
+  pub dead-lost : (n : ℕ) → is_inside (latest (snapshots settings codec h)).window.newest n ≡ true →
+      is_dead n (latest (snapshots settings codec h)).window.dead ≡ is_lost (snapshots settings codec h) n
   dead-lost = (sane settings codec h).dead
 
   -- the first number isn't above the newest

@@ -8,18 +8,18 @@ use Rattle.vrx_asks.specs.Asks.{beyond, without}
 use Rattle.vrx_asks.specs.declared.ask.Ask.{Ask}
 use Rattle.vrx_codec.specs.Meaning.{Meaning}
 use Rattle.vrx_window.specs.Content.{Content}
-use Rattle.vrx_window.specs.Window.{Contents, at, in_window, is_available, is_dead, is_inside, newest_with, placed, placed_in}
+use Rattle.vrx_window.specs.Window.{Contents, at, in_window, is_available, is_dead, is_inside, newest_with, after_placing, entries_with}
 use Rattle.vrx_frames.specs.Completed.{is_among}
 use Rattle.vrx_frames.specs.Run.{is_passed}
 use Rattle.vrx_core.specs.inside.Wants.{beyond_front, gap_from, gap_of, with_all_missing}
 use Rattle.vrx_core.specs.machine.Asking.{IsMissing}
 use Rattle.vrx_core.specs.machine.Available.{IsInWindow}
 use Rattle.vrx_core.specs.machine.GivenUp.{is_lost, numbers_left}
-use Rattle.vrx_core.specs.machine.Machine.{Snapshot, latest, settled, after_datagram}
+use Rattle.vrx_core.specs.machine.Machine.{Snapshot, latest, after_settling, after_datagram}
 use Rattle.vrx_core.specs.machine.Request.{missing, requests}
 use Rattle.vrx_core.specs.machine.Snapshot.{moved}
 use Rattle.vrx_core.specs.relation.StandsFor.{ask_of}
-use Rattle.vrx_core.proofs.machine.AvailableLemmas.{find-placed, placed_new, placed_old, order-window}
+use Rattle.vrx_core.proofs.machine.AvailableLemmas.{find-after_placing, placed_new, placed_old, order-window}
 use Rattle.vrx_core.proofs.machine.KeyLemmas.{same_key}
 use Rattle.vrx_core.proofs.relation.ListLemmas.{Rises, Contains-head, Contains-tail, all-of, all-in, filter-from, filter-to, filter-same, rises-filter, same-lists}
 use Rattle.vrx_core.proofs.asking.AskLemmas.{WasCounted, all-missing, ask-is, ask_from, beyond-front, beyond-number, first_ask, requests-more, requests-never, requests-none, without-number}
@@ -28,24 +28,31 @@ use Rattle.vrx_core.proofs.asking.RangeLemmas.{Leaves, among-from, among-to, app
 use Rattle.vrx_core.proofs.asking.SaneLemmas.{IsBelow, IsSane, IsStarted, available-there, below-with, some-value, taken-lost-is, taken-asked-missing, was_asked}
 
 -- the numbers that are missing with a packet lie between the newest number before and the newest after
-pub gap-bounds : (newest : Option ℕ) (n m : ℕ) → Contains (gap_of newest n) m → IsSomeAnd newest (λ k. k < m) × (newest_with newest n < m + WINDOW) × (m < newest_with newest n)
+pub gap-bounds : (newest : Option ℕ) (n m : ℕ) → Contains (gap_of newest n) m →
+    IsSomeAnd newest (λ k. k < m) × (newest_with newest n < m + WINDOW) × (m < newest_with newest n)
 gap-bounds None n m c = let p : (n ≤ m) × (m < n) = below-bounds n n m c in absurd (omega (arith, p.0, p.1))
 gap-bounds (Some k) n m c =
-    let p : (max (k + 1) (max k n + 1 - WINDOW) ≤ m) × (m < max k n) = below-bounds (max (k + 1) (max k n + 1 - WINDOW)) (max k n) m c in
+    let p : (max (k + 1) (max k n + 1 - WINDOW) ≤ m) × (m < max k n) =
+        below-bounds (max (k + 1) (max k n + 1 - WINDOW)) (max k n) m c in
     (omega (arith, p.0), omega (arith, p.0), p.1)
 
-pub gap-to : (newest : Option ℕ) (n m : ℕ) → IsSomeAnd newest (λ k. k < m) → newest_with newest n < m + WINDOW → m < newest_with newest n → Contains (gap_of newest n) m
+pub gap-to : (newest : Option ℕ) (n m : ℕ) → IsSomeAnd newest (λ k. k < m) → newest_with newest n < m + WINDOW →
+    m < newest_with newest n → Contains (gap_of newest n) m
 gap-to None n m above within below = absurd above
-gap-to (Some k) n m above within below = let less : k < m = above in below-to (max (k + 1) (max k n + 1 - WINDOW)) (max k n) m (omega (arith, less, within)) below
+gap-to (Some k) n m above within below = let less : k < m =
+    above in below-to (max (k + 1) (max k n + 1 - WINDOW)) (max k n) m (omega (arith, less, within)) below
 
 pub gap-rises : (newest : Option ℕ) (n : ℕ) → Rises (λ m. m) (gap_of newest n)
 gap-rises newest n = below-rises (gap_from newest (newest_with newest n)) (newest_with newest n)
 
 -- two lists that rise, one below the other, rise together
-pub rises-append : (xs ys : List ℕ) → Rises (λ m. m) xs → Rises (λ m. m) ys → ((x y : ℕ) → Contains xs x → Contains ys y → x < y) → Rises (λ m. m) (xs ++ ys)
+pub rises-append : (xs ys : List ℕ) → Rises (λ m. m) xs → Rises (λ m. m) ys →
+    ((x y : ℕ) → Contains xs x → Contains ys y → x < y) → Rises (λ m. m) (xs ++ ys)
 rises-append [] ys a b below = b
 rises-append (x ∷ xs) ys a b below = (
-  all-of (λ z. x < z) (xs ++ ys) (λ z c. elim (append-from xs ys z c) [ inl left ↦ all-in (λ w. x < w) xs z a.0 left | inr right ↦ below x z (Contains-head x xs) right ]),
+  all-of (λ z. x < z) (xs ++ ys)
+      (λ z c. elim (append-from xs ys z c) [ inl left ↦ all-in (λ w. x < w) xs z a.0 left | inr right ↦ below x z
+      (Contains-head x xs) right ]),
   rises-append xs ys a.1 b (λ u v c d. below u v (Contains-tail x xs u c) d),
 )
 
@@ -69,28 +76,41 @@ module _ (codec : Meaning) (past : List Snapshot) (moment n : ℕ) (content : Co
   after = after_datagram codec past moment (Ok (n, content))
 
   abbrev before_requests : Snapshot
-  before_requests = settled codec past (record (moved (latest past) moment) { window = placed n content (latest past).window })
+  before_requests = after_settling codec past
+      (record (moved (latest past) moment) { window = after_placing n content (latest past).window })
 
   abbrev top : ℕ
   top = newest_with (latest past).window.newest n
 
   -- what is missing is so before the event gives numbers up, and after
   pub missing-asked : (m : ℕ) → IsMissing (before_requests ∷ past) m → IsMissing (after ∷ past) m
-  missing-asked m is = record { after_first = is.after_first; before_newest = is.before_newest; inside = is.inside; absent = is.absent; not_passed = is.not_passed; not_lost = taken-lost-is codec past moment n content m is.inside.0 ∙ is.not_lost }
+  missing-asked m is = record {
+      after_first = is.after_first; before_newest = is.before_newest; inside = is.inside; absent =
+      is.absent; not_passed = is.not_passed; not_lost =
+      taken-lost-is codec past moment n content m is.inside.0 ∙ is.not_lost }
 
   missing-asks : (m : ℕ) → IsMissing (after ∷ past) m → IsMissing (before_requests ∷ past) m
-  missing-asks m is = record { after_first = is.after_first; before_newest = is.before_newest; inside = is.inside; absent = is.absent; not_passed = is.not_passed; not_lost = sym (taken-lost-is codec past moment n content m is.inside.0) ∙ is.not_lost }
+  missing-asks m is = record {
+      after_first = is.after_first; before_newest = is.before_newest; inside = is.inside; absent =
+      is.absent; not_passed = is.not_passed; not_lost =
+      sym (taken-lost-is codec past moment n content m is.inside.0) ∙ is.not_lost }
 
   -- what stays available, and what doesn't become so
-  available-stays : (m : ℕ) → in_window top m ≡ true → is_available m win.packets ≡ true → is_available m (placed_in top n content win.packets) ≡ true
+  available-stays : (m : ℕ) → in_window top m ≡ true → is_available m win.packets ≡ true →
+      is_available m (entries_with top n content win.packets) ≡ true
   available-stays m inside there = elim (cases_eq m n) [
-    | inl same ↦ ap (λ k. is_available k (placed_in top n content win.packets)) same ∙ ap is_some (placed_new top n content win.packets)
-    | inr other ↦ let c : (c : Content) × (at m win.packets ≡ Some c) = available-there (at m win.packets) there in ap is_some (placed_old top n m content c.0 win.packets other inside c.1)
+    | inl same ↦ ap (λ k. is_available k (entries_with top n content win.packets)) same
+        ∙ ap is_some (placed_new top n content win.packets)
+    | inr other ↦ let c : (c : Content) × (at m win.packets ≡ Some c) = available-there (at m win.packets) there in
+        ap is_some (placed_old top n m content c.0 win.packets other inside c.1)
   ]
 
-  absent-stays : (m : ℕ) → (m ≡ n → ⊥) → is_available m win.packets ≡ false → is_available m (placed_in top n content win.packets) ≡ false
-  absent-stays m other absent = ap is_some (find-placed top n m content win.packets) ∙ by (eq_by_cmp nat_cmp m n) refl (in_window top m) where
-    by : (b : Bool) → eq_by_cmp nat_cmp m n ≡ b → (c : Bool) → is_some (cond b (Some content) (cond c (at m win.packets) None)) ≡ false
+  absent-stays : (m : ℕ) → (m ≡ n → ⊥) → is_available m win.packets ≡ false →
+      is_available m (entries_with top n content win.packets) ≡ false
+  absent-stays m other absent = ap is_some (find-after_placing top n m content win.packets)
+      ∙ by (eq_by_cmp nat_cmp m n) refl (in_window top m) where
+    by : (b : Bool) → eq_by_cmp nat_cmp m n ≡ b → (c : Bool) →
+        is_some (cond b (Some content) (cond c (at m win.packets) None)) ≡ false
     by true is c = absurd (other (same_key m n is))
     by false is true = absent
     by false is false = refl
@@ -113,44 +133,66 @@ module _ (codec : Meaning) (past : List Snapshot) (moment n : ℕ) (content : Co
 
   left-is : (m : ℕ) → Contains missing_left m → IsLeft m
   left-is m c =
-      let p : Contains others_inside m × (not (is_passed after.front m) ≡ true) = filter-from (λ k. not (is_passed after.front k)) others_inside m c in
-      let q : Contains others m × (nat_lt (top - WINDOW) m ≡ true) = filter-from (λ k. nat_lt (top - WINDOW) k) others m p.0 in
-      let r : Contains (missing past) m × (not (m == n) ≡ true) = filter-from (λ k. not (k == n)) (missing past) m q.0 in
-      record { was = missing-from past m r.0; other = eqb-false m n (not-true (m == n) r.1); within = ltb-true (top - WINDOW) m q.1; not_passed = not-true (is_passed after.front m) p.1 }
+      let p : Contains others_inside m × (not (is_passed after.front m) ≡ true) =
+          filter-from (λ k. not (is_passed after.front k)) others_inside m c in
+      let q : Contains others m × (nat_lt (top - WINDOW) m ≡ true) =
+          filter-from (λ k. nat_lt (top - WINDOW) k) others m p.0 in
+      let r : Contains (missing past) m × (not (m == n) ≡ true) =
+          filter-from (λ k. not (k == n)) (missing past) m q.0 in
+      record {
+          was = missing-from past m r.0; other = eqb-false m n (not-true (m == n) r.1); within =
+          ltb-true (top - WINDOW) m q.1; not_passed = not-true (is_passed after.front m) p.1 }
 
   left-to : (m : ℕ) → IsLeft m → Contains missing_left m
   left-to m is = filter-to (λ k. not (is_passed after.front k)) others_inside m
       (filter-to (λ k. nat_lt (top - WINDOW) k) others m
-      (filter-to (λ k. not (k == n)) (missing past) m (missing-to past m is.was) (not_from_false (m == n) (ne_eqb m n is.other)))
+      (filter-to (λ k. not (k == n)) (missing past) m (missing-to past m is.was)
+      (not_from_false (m == n) (ne_eqb m n is.other)))
       (lt-ltb (top - WINDOW) m is.within))
       (not_from_false (is_passed after.front m) is.not_passed)
 
   left-rises : Rises (λ m. m) missing_left
-  left-rises = rises-filter (λ m. m) (λ m. not (is_passed after.front m)) others_inside (rises-filter (λ m. m) (λ m. nat_lt (top - WINDOW) m) others (rises-filter (λ m. m) (λ m. not (m == n)) (missing past) (missing-rises past)))
+  left-rises = rises-filter (λ m. m) (λ m. not (is_passed after.front m)) others_inside
+      (rises-filter (λ m. m) (λ m. nat_lt (top - WINDOW) m) others
+      (rises-filter (λ m. m) (λ m. not (m == n)) (missing past) (missing-rises past)))
 
   -- so the asks are those of these numbers
-  asks-left : beyond_front after.front (beyond (top - WINDOW) (without n (map (ask_of past) (missing past)))) ≡ map (ask_of past) missing_left
+  asks-left : beyond_front after.front (beyond (top - WINDOW) (without n (map (ask_of past) (missing past)))) ≡ map
+      (ask_of past) missing_left
   asks-left =
       ap (λ asks. beyond_front after.front (beyond (top - WINDOW) asks)) (without-number past (missing past) n)
       ∙ ap (beyond_front after.front) (beyond-number past others (top - WINDOW))
       ∙ beyond-front past others_inside after.front
 
   module _ (sane : IsSane past)
-      (same : (m : ℕ) → is_available m (placed n content (latest past).window).packets ≡ false → is_passed (after_datagram codec past moment (Ok (n, content))).front m ≡ is_passed (latest past).front m)
+      (same : (m : ℕ) → is_available m (after_placing n content (latest past).window).packets ≡ false →
+      is_passed (after_datagram codec past moment (Ok (n, content))).front m ≡ is_passed (latest past).front m)
       (upto : (m : ℕ) → is_passed (latest past).front m ≡ true → IsSomeAnd (latest past).window.newest (λ k. m ≤ k))
-      (held : (m : ℕ) → is_available m (latest past).window.packets ≡ true → IsInWindow (latest past).window.newest m) where
+      (held : (m : ℕ) → is_available m (latest past).window.packets ≡ true →
+      IsInWindow (latest past).window.newest m) where
     -- a number above the newest isn't available, passed, asked for or given up
     above-absent : (k m : ℕ) → win.newest ≡ Some k → k < m → is_available m win.packets ≡ false
-    above-absent k m is above = false_from_ne_true (is_available m win.packets) (λ there. let p : (k < m + WINDOW) × (m ≤ k) = subst (λ o. IsInWindow o m) is (held m there) in absurd (omega (arith, above, p.1)))
+    above-absent k m is above =
+        false_from_ne_true (is_available m win.packets)
+        (λ there. let p : (k < m + WINDOW) × (m ≤ k) = subst (λ o. IsInWindow o m) is (held m there) in
+        absurd (omega (arith, above, p.1)))
 
     above-not-passed : (k m : ℕ) → win.newest ≡ Some k → k < m → is_passed (latest past).front m ≡ false
-    above-not-passed k m is above = false_from_ne_true (is_passed (latest past).front m) (λ passed. let p : m ≤ k = subst (λ o. IsSomeAnd o (λ j. m ≤ j)) is (upto m passed) in absurd (omega (arith, above, p)))
+    above-not-passed k m is above =
+        false_from_ne_true (is_passed (latest past).front m)
+        (λ passed. let p : m ≤ k = subst (λ o. IsSomeAnd o (λ j. m ≤ j)) is (upto m passed) in
+        absurd (omega (arith, above, p)))
 
     above-not-lost : (k m : ℕ) → win.newest ≡ Some k → k < m → is_lost past m ≡ false
-    above-not-lost k m is above = false_from_ne_true (is_lost past m) (λ lost. let p : m < k = subst (λ o. IsBelow o m) is (sane.lost m lost) in absurd (omega (arith, above, p)))
+    above-not-lost k m is above =
+        false_from_ne_true (is_lost past m)
+        (λ lost. let p : m < k = subst (λ o. IsBelow o m) is (sane.lost m lost) in absurd (omega (arith, above, p)))
 
     above-not-asked : (k m : ℕ) → win.newest ≡ Some k → k < m → was_asked past m ≡ false
-    above-not-asked k m is above = false_from_ne_true (was_asked past m) (λ asked. let p : m < k = subst (λ o. IsBelow o m) is (sane.asked m asked) in absurd (omega (arith, above, p)))
+    above-not-asked k m is above =
+        false_from_ne_true (was_asked past m)
+        (λ asked. let p : m < k = subst (λ o. IsBelow o m) is (sane.asked m asked) in
+        absurd (omega (arith, above, p)))
 
     -- the first number isn't above the newest
     first-upto : (k : ℕ) → win.newest ≡ Some k → IsStarted win → unwrap_or win.first n ≤ k
@@ -181,24 +223,31 @@ module _ (codec : Meaning) (past : List Snapshot) (moment n : ℕ) (content : Co
       by (inr p) =
           let b : top ≡ max p.1 n = ap (λ o. newest_with o n) p.3 in
           elim (cases_lt p.1 m) [
-            | inl above ↦ inr (gap-to win.newest n m (subst (λ o. IsSomeAnd o (λ k. k < m)) (sym p.3) above) within below)
-            | inr most ↦ inl (record { was = old most; other = other; within = omega (arith, within, below, beyond_it); not_passed = is.not_passed })
+            | inl above ↦ inr (gap-to win.newest n m
+                (subst (λ o. IsSomeAnd o (λ k. k < m)) (sym p.3) above) within below)
+            | inr most ↦ inl (record {
+                was = old most; other = other; within = omega (arith, within, below, beyond_it); not_passed =
+                is.not_passed })
           ] where
             inside_top : in_window top m ≡ true
             inside_top = order-window top m within (omega (arith, below))
 
             absent : is_available m win.packets ≡ false
-            absent = false_from_ne_true (is_available m win.packets) (λ there. true≢false (sym (available-stays m inside_top there) ∙ is.absent))
+            absent = false_from_ne_true (is_available m win.packets)
+                (λ there. true≢false (sym (available-stays m inside_top there) ∙ is.absent))
 
             other : m ≡ n → ⊥
-            other e = true≢false (sym (ap is_some (placed_new top n content win.packets)) ∙ sym (ap (λ k. is_available k (placed_in top n content win.packets)) e) ∙ is.absent)
+            other e = true≢false (sym (ap is_some (placed_new top n content win.packets))
+                ∙ sym (ap (λ k. is_available k (entries_with top n content win.packets)) e) ∙ is.absent)
 
             not_newest : m ≡ p.1 → ⊥
-            not_newest e = true≢false (sym (sane.there p.1 p.3) ∙ sym (ap (λ k. is_available k win.packets) e) ∙ absent)
+            not_newest e =
+                true≢false (sym (sane.there p.1 p.3) ∙ sym (ap (λ k. is_available k win.packets) e) ∙ absent)
 
             old : m ≤ p.1 → IsMissing past m
             old most =
-                let less : m < p.1 = elim (cases_lt m p.1) [ inl less ↦ less | inr more ↦ absurd (not_newest (omega (arith, most, more))) ] in
+                let less : m < p.1 = elim (cases_lt m p.1) [ inl less ↦ less | inr more ↦ absurd
+                    (not_newest (omega (arith, most, more))) ] in
                 let c : top ≡ max p.1 n = ap (λ o. newest_with o n) p.3 in
                 let a : unwrap_or win.first n ≡ p.0 = first-is win.first n p.0 p.2 in
                 record {
@@ -252,16 +301,19 @@ module _ (codec : Meaning) (past : List Snapshot) (moment n : ℕ) (content : Co
       top_is : top ≡ max newest.0 n
       top_is = ap (λ o. newest_with o n) newest.1
 
-      absent : is_available m (placed_in top n content win.packets) ≡ false
-      absent = absent-stays m (λ e. absurd (omega (arith, e, k_below, m_below, top_is))) (above-absent newest.0 m newest.1 k_below)
+      absent : is_available m (entries_with top n content win.packets) ≡ false
+      absent = absent-stays m (λ e. absurd (omega (arith, e, k_below, m_below, top_is)))
+          (above-absent newest.0 m newest.1 k_below)
 
     -- so the missing numbers are those left, and the gap
     pub missing-is : missing (after ∷ past) ≡ missing_left ++ gap_of win.newest n
-    missing-is = same-lists (λ m. m) (missing (after ∷ past)) (missing_left ++ gap_of win.newest n) (missing-rises (after ∷ past))
+    missing-is = same-lists (λ m. m) (missing (after ∷ past)) (missing_left ++ gap_of win.newest n)
+        (missing-rises (after ∷ past))
         (rises-append missing_left (gap_of win.newest n) left-rises (gap-rises win.newest n) apart) to back where
           apart : (x y : ℕ) → Contains missing_left x → Contains (gap_of win.newest n) y → x < y
           apart x y c d =
-              let a : (k : ℕ) × (win.newest ≡ Some k) × (x < k) = some-value (λ k. x < k) win.newest (left-is x c).was.before_newest in
+              let a : (k : ℕ) × (win.newest ≡ Some k) × (x < k) =
+                  some-value (λ k. x < k) win.newest (left-is x c).was.before_newest in
               let b : a.0 < y = subst (λ o. IsSomeAnd o (λ k. k < y)) a.1 (gap-bounds win.newest n y d).0 in
               let e : x < a.0 = a.2 in
               omega (arith, b, e)
@@ -281,19 +333,24 @@ module _ (codec : Meaning) (past : List Snapshot) (moment n : ℕ) (content : Co
     -- no number of the gap was asked for
     gap-never : (m : ℕ) → Contains (gap_of win.newest n) m → requests past m ≡ []
     gap-never m c =
-        let k : (k : ℕ) × (win.newest ≡ Some k) × (k < m) = some-value (λ j. j < m) win.newest (gap-bounds win.newest n m c).0 in
+        let k : (k : ℕ) × (win.newest ≡ Some k) × (k < m) =
+            some-value (λ j. j < m) win.newest (gap-bounds win.newest n m c).0 in
         requests-never past m (above-not-asked k.0 m k.1 k.2)
 
     -- each is asked for now
     gap-asked : (m : ℕ) → Contains (gap_of win.newest n) m → Contains after.asked m
-    gap-asked m c = filter-to (λ k. length (requests (before_requests ∷ past) k) == 0) (missing (before_requests ∷ past)) m (missing-to (before_requests ∷ past) m (missing-asks m (gap-missing m c)))
+    gap-asked m c = filter-to (λ k. length (requests (before_requests ∷ past) k) == 0)
+        (missing (before_requests ∷ past)) m
+        (missing-to (before_requests ∷ past) m (missing-asks m (gap-missing m c)))
         (ap (λ (ms : List ℕ). length ms == 0) (gap-never m c))
 
     module _ (counted : (m : ℕ) → Contains (missing past) m → WasCounted past m) where
       -- what was missing isn't asked for again
       asked-never : (m : ℕ) → Contains after.asked m → IsLeft m → ⊥
       asked-never m c left =
-          let none : (length (requests past m) == 0) ≡ true = (filter-from (λ k. length (requests (before_requests ∷ past) k) == 0) (missing (before_requests ∷ past)) m c).1 in
+          let none : (length (requests past m) == 0) ≡ true =
+              (filter-from (λ k. length (requests (before_requests ∷ past) k) == 0)
+              (missing (before_requests ∷ past)) m c).1 in
           let zero_is : length (requests past m) ≡ 0 = eqb-true (length (requests past m)) 0 none in
           let once : 1 ≤ length (requests past m) = (counted m (missing-to past m left.was)).once in
           omega (arith, zero_is, once)
@@ -301,38 +358,50 @@ module _ (codec : Meaning) (past : List Snapshot) (moment n : ℕ) (content : Co
       -- what is asked for is the gap
       pub gap-is-asked : gap_of win.newest n ≡ after.asked
       gap-is-asked = same-lists (λ m. m) (gap_of win.newest n) after.asked (gap-rises win.newest n)
-          (rises-filter (λ m. m) (λ k. length (requests (before_requests ∷ past) k) == 0) (missing (before_requests ∷ past)) (missing-rises (before_requests ∷ past))) gap-asked back where
+          (rises-filter (λ m. m) (λ k. length (requests (before_requests ∷ past) k) == 0)
+          (missing (before_requests ∷ past)) (missing-rises (before_requests ∷ past))) gap-asked back where
             back : (m : ℕ) → Contains after.asked m → Contains (gap_of win.newest n) m
-            back m c = elim (missing-split m (missing-asked m (taken-asked-missing codec past moment n content m (among-to after.asked m c)))) [
+            back m c = elim (missing-split m
+                (missing-asked m (taken-asked-missing codec past moment n content m (among-to after.asked m c)))) [
               | inl left ↦ absurd (asked-never m c left)
               | inr gap ↦ gap
             ]
 
       left-same : (m : ℕ) → Contains missing_left m → ask_of past m ≡ ask_of (after ∷ past) m
       left-same m c =
-          let none : is_among after.asked m ≡ false = false_from_ne_true (is_among after.asked m) (λ is. asked-never m (among-from after.asked m is) (left-is m c)) in
+          let none : is_among after.asked m ≡ false =
+              false_from_ne_true (is_among after.asked m)
+              (λ is. asked-never m (among-from after.asked m is) (left-is m c)) in
           ask-is past m ∙ ap (ask_from m) (sym (requests-none after past m none)) ∙ sym (ask-is (after ∷ past) m)
 
-      gap-first : (m : ℕ) → Contains (gap_of win.newest n) m → first_ask (max (latest past).now moment) m ≡ ask_of (after ∷ past) m
+      gap-first : (m : ℕ) → Contains (gap_of win.newest n) m →
+          first_ask (max (latest past).now moment) m ≡ ask_of (after ∷ past) m
       gap-first m c =
           ap (λ (ms : List ℕ). ask_from m (max (latest past).now moment ∷ ms)) (sym (gap-never m c))
           ∙ ap (ask_from m) (sym (requests-more after past m (among-to after.asked m (gap-asked m c))))
           ∙ sym (ask-is (after ∷ past) m)
 
       -- the asks after a packet was taken
-      pub asks-are : with_all_missing (max (latest past).now moment) (gap_of win.newest n) (beyond_front after.front (beyond (top - WINDOW) (without n (map (ask_of past) (missing past))))) ≡ map (ask_of (after ∷ past)) (missing (after ∷ past))
+      pub asks-are : with_all_missing (max (latest past).now moment) (gap_of win.newest n)
+          (beyond_front after.front (beyond (top - WINDOW) (without n (map (ask_of past) (missing past))))) ≡ map
+          (ask_of (after ∷ past)) (missing (after ∷ past))
       asks-are =
           ap (with_all_missing (max (latest past).now moment) (gap_of win.newest n)) asks-left
           ∙ all-missing (max (latest past).now moment) (gap_of win.newest n) (map (ask_of past) missing_left)
-          ∙ ap (λ (asks : List Ask). asks ++ map (first_ask (max (latest past).now moment)) (gap_of win.newest n)) (map-same (ask_of past) (ask_of (after ∷ past)) missing_left left-same)
-          ∙ ap (λ (asks : List Ask). map (ask_of (after ∷ past)) missing_left ++ asks) (map-same (first_ask (max (latest past).now moment)) (ask_of (after ∷ past)) (gap_of win.newest n) gap-first)
+          ∙ ap (λ (asks : List Ask). asks ++ map (first_ask (max (latest past).now moment)) (gap_of win.newest n))
+          (map-same (ask_of past) (ask_of (after ∷ past)) missing_left left-same)
+          ∙ ap (λ (asks : List Ask). map (ask_of (after ∷ past)) missing_left ++ asks)
+          (map-same (first_ask (max (latest past).now moment)) (ask_of (after ∷ past))
+          (gap_of win.newest n) gap-first)
           ∙ sym (map-append (ask_of (after ∷ past)) missing_left (gap_of win.newest n))
           ∙ ap (map (ask_of (after ∷ past))) (sym missing-is)
 
     -- the numbers given up, as the window says them
     lost-same : (m : ℕ) → Contains (numbers_left (Some (unwrap_or win.first n)) win.newest (Some top)) m
-        → (not (is_passed (latest past).front m) && not (is_dead m win.dead)) ≡ (not (is_passed after.front m) && not (is_lost past m))
-    lost-same m c = ap (λ b. not b && not (is_dead m win.dead)) (sym (same m absent)) ∙ ap (λ b. not (is_passed after.front m) && not b) (dead_is (cases_lt newest.0 m)) where
+        → (not (is_passed (latest past).front m) && not (is_dead m win.dead))
+        ≡ (not (is_passed after.front m) && not (is_lost past m))
+    lost-same m c = ap (λ b. not b && not (is_dead m win.dead)) (sym (same m absent))
+        ∙ ap (λ b. not (is_passed after.front m) && not b) (dead_is (cases_lt newest.0 m)) where
       leaves : Leaves (Some (unwrap_or win.first n)) win.newest top m
       leaves = left-from (Some (unwrap_or win.first n)) win.newest top m c
 
@@ -349,17 +418,23 @@ module _ (codec : Meaning) (past : List Snapshot) (moment n : ℕ) (content : Co
       inside_k = newest.2
 
       not_inside : (b : Bool) → in_window top m ≡ b → b ≡ false
-      not_inside true is = let p : top < m + WINDOW = ltb-true top (m + WINDOW) (and_parts (nat_lt top (m + WINDOW)) (nat_le m top) is).0 in absurd (omega (arith, is_left, p))
+      not_inside true is = let p : top < m + WINDOW =
+          ltb-true top (m + WINDOW) (and_parts (nat_lt top (m + WINDOW)) (nat_le m top) is).0 in
+          absurd (omega (arith, is_left, p))
       not_inside false is = refl
 
-      absent : is_available m (placed_in top n content win.packets) ≡ false
-      absent = ap is_some (find-placed top n m content win.packets) ∙ by (eq_by_cmp nat_cmp m n) refl ∙ ap (λ b. is_some (cond b (at m win.packets) None)) (not_inside (in_window top m) refl) where
-        by : (b : Bool) → eq_by_cmp nat_cmp m n ≡ b → is_some (cond b (Some content) (cond (in_window top m) (at m win.packets) None)) ≡ is_some (cond (in_window top m) (at m win.packets) None)
+      absent : is_available m (entries_with top n content win.packets) ≡ false
+      absent = ap is_some (find-after_placing top n m content win.packets) ∙ by (eq_by_cmp nat_cmp m n) refl
+          ∙ ap (λ b. is_some (cond b (at m win.packets) None)) (not_inside (in_window top m) refl) where
+        by : (b : Bool) → eq_by_cmp nat_cmp m n ≡ b →
+            is_some (cond b (Some content) (cond (in_window top m) (at m win.packets) None)) ≡ is_some
+            (cond (in_window top m) (at m win.packets) None)
         by true is = let e : m ≡ n = same_key m n is in absurd (omega (arith, e, is_left, top_is, inside_k))
         by false is = refl
 
       above_inside : newest.0 < m → is_inside win.newest m ≡ true → ⊥
-      above_inside above is = let p : m ≤ newest.0 = inside-upto newest.0 m (sym (ap (λ o. is_inside o m) newest.1) ∙ is) in absurd (omega (arith, above, p))
+      above_inside above is = let p : m ≤ newest.0 =
+          inside-upto newest.0 m (sym (ap (λ o. is_inside o m) newest.1) ∙ is) in absurd (omega (arith, above, p))
 
       dead_is : (newest.0 < m) ⊎ (m ≤ newest.0) → is_dead m win.dead ≡ is_lost past m
       dead_is (inl above) =
@@ -368,15 +443,24 @@ module _ (codec : Meaning) (past : List Snapshot) (moment n : ℕ) (content : Co
       dead_is (inr upto') = sane.dead m (ap (λ o. is_inside o m) newest.1 ∙ order-window newest.0 m inside_k upto')
 
     -- so they are what the event gives up
-    pub lost-is : filter (λ m. not (is_passed (latest past).front m) && not (is_dead m win.dead)) (numbers_left win.first win.newest (Some top)) ≡ after.lost
+    pub lost-is : filter (λ m. not (is_passed (latest past).front m) && not (is_dead m win.dead))
+        (numbers_left win.first win.newest (Some top)) ≡ after.lost
     lost-is =
         ap (filter (λ m. not (is_passed (latest past).front m) && not (is_dead m win.dead))) (left_is sane.started)
-        ∙ filter-same (λ m. not (is_passed (latest past).front m) && not (is_dead m win.dead)) (λ m. not (is_passed after.front m) && not (is_lost past m)) (numbers_left (Some (unwrap_or win.first n)) win.newest (Some top))
-        (all-of (λ m. (not (is_passed (latest past).front m) && not (is_dead m win.dead)) ≡ (not (is_passed after.front m) && not (is_lost past m))) (numbers_left (Some (unwrap_or win.first n)) win.newest (Some top)) lost-same) where
+        ∙ filter-same (λ m. not (is_passed (latest past).front m) && not (is_dead m win.dead))
+        (λ m. not (is_passed after.front m) && not (is_lost past m))
+        (numbers_left (Some (unwrap_or win.first n)) win.newest (Some top))
+        (all-of (λ m. (not (is_passed (latest past).front m) && not (is_dead m win.dead))
+        ≡ (not (is_passed after.front m) && not (is_lost past m)))
+        (numbers_left (Some (unwrap_or win.first n)) win.newest (Some top)) lost-same) where
           none_left : (o : Option ℕ) → numbers_left o None (Some top) ≡ []
           none_left None = refl
           none_left (Some f) = refl
 
-          left_is : IsStarted win → numbers_left win.first win.newest (Some top) ≡ numbers_left (Some (unwrap_or win.first n)) win.newest (Some top)
-          left_is (inl none) = ap (λ o. numbers_left win.first o (Some top)) none.1 ∙ none_left win.first ∙ sym (ap (λ o. numbers_left (Some (unwrap_or win.first n)) o (Some top)) none.1)
-          left_is (inr p) = ap (λ o. numbers_left o win.newest (Some top)) p.2 ∙ ap (λ k. numbers_left (Some k) win.newest (Some top)) (sym (first-is win.first n p.0 p.2))
+          left_is : IsStarted win →
+              numbers_left win.first win.newest (Some top) ≡ numbers_left (Some (unwrap_or win.first n)) win.newest
+              (Some top)
+          left_is (inl none) = ap (λ o. numbers_left win.first o (Some top)) none.1 ∙ none_left win.first
+              ∙ sym (ap (λ o. numbers_left (Some (unwrap_or win.first n)) o (Some top)) none.1)
+          left_is (inr p) = ap (λ o. numbers_left o win.newest (Some top)) p.2
+              ∙ ap (λ k. numbers_left (Some k) win.newest (Some top)) (sym (first-is win.first n p.0 p.2))

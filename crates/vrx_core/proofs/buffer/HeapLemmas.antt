@@ -8,7 +8,7 @@ use Rattle.std.specs.Ordering.{is_lt}
 use Rattle.std.specs.declared.cmp.Reverse.{Reverse}
 use Rattle.std.proofs.lemmas.Grind.{common_steps}
 use Rattle.std.proofs.lemmas.List.Sorted.{IsPermutation-keeps, IsPermutation-refl}
-use Rattle.vrx_core.specs.inside.Heap.{numbers_of, reversed}
+use Rattle.vrx_core.specs.inside.Heap.{numbers_of, reverse_order}
 use Rattle.vrx_core.specs.relation.Order.{put_by, rises_by, sorted_by}
 use Rattle.vrx_core.proofs.buffer.OrderLemmas.{all-put, beyond, length-put}
 
@@ -26,7 +26,8 @@ module _ {X : Type 0} (number : X → ℕ) where
   sorted xs = sorted_by number xs
 
   -- x comes to the place j, and what stood there goes
-  moved : (xs : List X) (j : ℕ) (x d : X) → j < length xs → put (number (get_or xs j d)) (sorted (set xs j x)) ≡ put (number x) (sorted xs)
+  moved : (xs : List X) (j : ℕ) (x d : X) → j < length xs →
+      put (number (get_or xs j d)) (sorted (set xs j x)) ≡ put (number x) (sorted xs)
   moved [] j x d lt = absurd (omega (arith, lt))
   moved (y ∷ ys) zero x d lt = commute (number y) (number x) (sorted ys)
   moved (y ∷ ys) (suc j) x d lt = commute (number (get_or ys j d)) (number y) (sorted (set ys j x))
@@ -38,7 +39,8 @@ module _ {X : Type 0} (number : X → ℕ) where
   swapped (x ∷ xs) zero zero d a b = refl
   swapped (x ∷ xs) zero (suc j) d a b = moved xs j x d (omega (arith, b))
   swapped (x ∷ xs) (suc i) zero d a b = moved xs i x d (omega (arith, a))
-  swapped (x ∷ xs) (suc i) (suc j) d a b = ap (put (number x)) (swapped xs i j d (omega (arith, a)) (omega (arith, b)))
+  swapped (x ∷ xs) (suc i) (suc j) d a b =
+      ap (put (number x)) (swapped xs i j d (omega (arith, a)) (omega (arith, b)))
 
   swap_sorted : (xs : List X) (i j : ℕ) → i < length xs → j < length xs → sorted (swap xs i j) ≡ sorted xs
   swap_sorted [] i j a b = refl
@@ -65,22 +67,25 @@ first-put n [] rise h = refl
 first-put n (k ∷ ks) rise h = grind (arith, common_steps, among k n ks)
 
 -- what bounds a heap is at most each of its numbers_of
-bounded : (x y : Reverse ℕ) → is_lt (reversed x y) ≡ false → nat_le x.0 y.0 ≡ true
+bounded : (x y : Reverse ℕ) → is_lt (reverse_order x y) ≡ false → nat_le x.0 y.0 ≡ true
 bounded x y h = grind (arith, common_steps)
 
-at_most : (x : Reverse ℕ) (xs : List (Reverse ℕ)) → IsUpperBound reversed x xs → list_all (λ m. nat_le x.0 m) (numbers_of xs) ≡ true
+at_most : (x : Reverse ℕ) (xs : List (Reverse ℕ)) → IsUpperBound reverse_order x xs →
+    list_all (λ m. nat_le x.0 m) (numbers_of xs) ≡ true
 at_most x [] h = refl
 at_most x (y ∷ ys) h = all-put (λ m. m) (λ m. nat_le x.0 m) y.0 (numbers_of ys) (bounded x y h.0) (at_most x ys h.1)
 
 -- the top is the first number
-pub top-first : (x : Reverse ℕ) (xs rest : List (Reverse ℕ)) → IsPermutation xs (x ∷ rest) → IsUpperBound reversed x xs
+pub top-first : (x : Reverse ℕ) (xs rest : List (Reverse ℕ)) → IsPermutation xs (x ∷ rest) →
+    IsUpperBound reverse_order x xs
     → rises_by (λ n. n) (numbers_of xs) ≡ true → numbers_of xs ≡ x.0 ∷ numbers_of rest
 top-first x xs rest p bound rise =
     let same : put x.0 (numbers_of rest) ≡ numbers_of xs = permuted (λ y. y.0) xs (x ∷ rest) p in
     sym same ∙ first-put x.0 (numbers_of rest) (ap (rises_by (λ n. n)) same ∙ rise)
     (ap (list_all (λ m. nat_le x.0 m)) same ∙ at_most x xs bound)
 
-pub peek-first : (x : Reverse ℕ) (xs : List (Reverse ℕ)) → 0 < length xs → x ≡ get_or xs 0 x → IsUpperBound reversed x xs
+pub peek-first : (x : Reverse ℕ) (xs : List (Reverse ℕ)) → 0 < length xs → x ≡ get_or xs 0 x →
+    IsUpperBound reverse_order x xs
     → rises_by (λ n. n) (numbers_of xs) ≡ true → Some x.0 ≡ slice_get (numbers_of xs) 0
 peek-first x [] lt same bound rise = absurd (omega (arith, lt))
 peek-first x (y ∷ ys) lt same bound rise =

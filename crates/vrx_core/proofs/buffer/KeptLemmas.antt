@@ -19,7 +19,8 @@ use Rattle.vrx_core.proofs.buffer.OrderLemmas.{all-put, few, length-put, rises-p
 use Rattle.vrx_core.proofs.buffer.RunLemmas.{all-put_in, all-where, inside-left, keys-few, keys-fresh, keys-with, near-with, runs-left, runs-put, window-with, found, least-none, least-some, none-long, runs-rise, runs-low, runs-high, runs-later, keys-from}
 
 -- a test that each element passes
-all_pass : {X : Type 0} (p : X → Bool) (xs : List X) → list_all p xs ≡ true → (k : ℕ) (d : X) → k < length xs → p (slice_index_or xs k d) ≡ true
+all_pass : {X : Type 0} (p : X → Bool) (xs : List X) → list_all p xs ≡ true → (k : ℕ) (d : X) → k < length xs →
+    p (slice_index_or xs k d) ≡ true
 all_pass p [] h k d lt = absurd (omega (arith, lt))
 all_pass p (x ∷ xs) h zero d lt = grind (arith, common_steps)
 all_pass p (x ∷ xs) h (suc k) d lt = all_pass p xs (grind (arith, common_steps)) k d (omega (arith, lt))
@@ -31,7 +32,8 @@ true_of false h = absurd h
 below-true : (n b : ℕ) → n < b → nat_lt n b ≡ true
 below-true n b h = grind (arith, common_steps)
 
-near_later : (from next : ℕ) (newest : Option ℕ) → from ≤ next → is_near from newest ≡ true → is_near next newest ≡ true
+near_later : (from next : ℕ) (newest : Option ℕ) → from ≤ next → is_near from newest ≡ true →
+    is_near next newest ≡ true
 near_later from next None le h = refl
 near_later from next (Some newest) le h = grind (arith, common_steps)
 
@@ -48,7 +50,8 @@ module _ (from : ℕ) (ring : Numbered Run) (keys : List ℕ) (kept : IsKept fro
   pub kept-rise : rises_by (λ run. run.first) runs ≡ true
   kept-rise = runs-rise from ring.entries kept.named kept.rise
 
-  pub kept-found : (n : ℕ) → cond (nat_lt n from) None (find_key nat_cmp n ring.entries) ≡ find (λ run. run.first == n) runs
+  pub kept-found : (n : ℕ) →
+      cond (nat_lt n from) None (find_key nat_cmp n ring.entries) ≡ find (λ run. run.first == n) runs
   kept-found n = sym (found from n ring.entries kept.named)
 
   pub kept-long : (n : ℕ) → 2 ^ 64 ≤ n → None ≡ find (λ run. run.first == n) runs
@@ -68,7 +71,8 @@ module _ (from : ℕ) (ring : Numbered Run) (keys : List ℕ) (kept : IsKept fro
       (runs-high from ring.newest ring.entries kept.named kept.near kept.inside) in
       record {
         rise = kept-rise;
-        inside = λ k d lt. (within-low from (slice_index_or runs k d).first (low k d lt), within-high (slice_index_or runs k d).first (from + WINDOW) (high k d lt));
+        inside = λ k d lt. (within-low from (slice_index_or runs k d).first (low k d lt),
+            within-high (slice_index_or runs k d).first (from + WINDOW) (high k d lt));
       }
 
   pub kept-later : (last : ℕ) → from ≤ last + 1 → IsKept (last + 1) ring (filter (λ m. nat_lt last m) keys)
@@ -78,11 +82,13 @@ module _ (from : ℕ) (ring : Numbered Run) (keys : List ℕ) (kept : IsKept fro
     near = near_later from (last + 1) ring.newest le kept.near;
     short = kept.short;
     named = kept.named;
-    keys_are = ap (filter (λ m. nat_lt last m)) kept.keys_are ∙ sym (keys-from last runs) ∙ ap key_numbers (sym (runs-later from (last + 1) ring.entries le kept.named));
+    keys_are = ap (filter (λ m. nat_lt last m)) kept.keys_are ∙ sym (keys-from last runs)
+        ∙ ap key_numbers (sym (runs-later from (last + 1) ring.entries le kept.named));
   }
 
   -- a run is put in
-  module _ (run : Run) (taken : from ≤ run.first) (inside : run.first < from + WINDOW) (fresh : stands run.first runs ≡ false) where
+  module _ (run : Run) (taken : from ≤ run.first) (inside : run.first < from + WINDOW)
+      (fresh : stands run.first runs ≡ false) where
     abbrev next : ℕ
     next = newest_with ring.newest run.first
 
@@ -97,7 +103,8 @@ module _ (from : ℕ) (ring : Numbered Run) (keys : List ℕ) (kept : IsKept fro
 
     pub added-runs : runs_under from entries ≡ with_run run runs
     added-runs =
-        runs-put from run.first run left taken refl (all-where (λ entry. entry.1.first == entry.0) (in_window next) ring.entries kept.named)
+        runs-put from run.first run left taken refl
+        (all-where (λ entry. entry.1.first == entry.0) (in_window next) ring.entries kept.named)
         (ap (stands run.first) same-runs ∙ fresh) ∙ ap (with_run run) same-runs
 
     pub added-room : length keys < WINDOW
@@ -119,7 +126,8 @@ module _ (from : ℕ) (ring : Numbered Run) (keys : List ℕ) (kept : IsKept fro
     pub added-fresh : list_any (λ m. m == run.first) keys ≡ false
     added-fresh = ap (list_any (λ m. m == run.first)) kept.keys_are ∙ keys-fresh run.first runs fresh
 
-    pub added-kept : (short : run.first < 2 ^ 64) (new : Numbered Run) (ks : List ℕ) → new.newest ≡ Some next → new.entries ≡ entries
+    pub added-kept : (short : run.first < 2 ^ 64) (new : Numbered Run) (ks : List ℕ) → new.newest ≡ Some next →
+        new.entries ≡ entries
         → ks ≡ cond run.key (put_by (λ m. m) run.first keys) keys → IsKept from new ks
     added-kept short new ks n e k = record {
       rise = ap (is_sorted nat_cmp) e ∙ true_of (is_sorted nat_cmp entries)
@@ -127,7 +135,8 @@ module _ (from : ℕ) (ring : Numbered Run) (keys : List ℕ) (kept : IsKept fro
           (is_sorted-where_key nat_cmp (in_window next) ring.entries (subst T (sym kept.rise) tt)));
       inside = (λ i. are_inside (n i) (e i))
           ∙ all-put_in (λ entry. in_window next entry.0) run.first run left
-          (λ m h. ap (in_window next) h ∙ window-with from run.first ring.newest kept.near taken) (inside-left next ring.entries);
+          (λ m h. ap (in_window next) h ∙ window-with from run.first ring.newest kept.near taken)
+          (inside-left next ring.entries);
       near = ap (is_near from) n ∙ near-with from run.first ring.newest kept.near inside;
       short = ap are_short e ∙ all-put_in (λ entry. nat_lt entry.0 (2 ^ 64)) run.first run left
           (λ m h. ap (λ q. nat_lt q (2 ^ 64)) h ∙ below-true run.first (2 ^ 64) short)

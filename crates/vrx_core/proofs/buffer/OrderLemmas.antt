@@ -18,7 +18,8 @@ module _ {X : Type 0} (number : X → ℕ) where
   beyond-less m n (x ∷ xs) le h = grind (arith, common_steps, beyond-less m n xs le)
 
   -- one more lies beyond a number, if it does and the others do
-  pub beyond-put : (n : ℕ) (x : X) (xs : List X) → n < number x → beyond n xs ≡ true → beyond n (put_by number x xs) ≡ true
+  pub beyond-put : (n : ℕ) (x : X) (xs : List X) → n < number x → beyond n xs ≡ true →
+      beyond n (put_by number x xs) ≡ true
   beyond-put n x [] lt h = grind (arith, common_steps)
   beyond-put n x (y ∷ ys) lt h = grind (arith, common_steps, beyond-put n x ys lt)
 
@@ -86,7 +87,8 @@ empty-through last [] h = refl
 empty-through last (x ∷ xs) h = absurd (none-some x h)
 
 -- what is left beyond a number: all, if none is at most that; and else as much as without the first
-pub all-left : (last : ℕ) (xs : List ℕ) → list_any (λ m. nat_le m last) xs ≡ false → filter (λ m. nat_lt last m) xs ≡ xs
+pub all-left : (last : ℕ) (xs : List ℕ) → list_any (λ m. nat_le m last) xs ≡ false →
+    filter (λ m. nat_lt last m) xs ≡ xs
 all-left last [] h = refl
 all-left last (x ∷ xs) h = grind (arith, common_steps, all-left last xs)
 
@@ -106,6 +108,7 @@ pub all-put : {X : Type 0} (number : X → ℕ) (p : X → Bool) (x : X) (xs : L
 all-put number p x [] one h = grind (arith, common_steps)
 all-put number p x (y ∷ ys) one h = grind (arith, common_steps, all-put number p x ys)
 
-pub rises-drop : {X : Type 0} (number : X → ℕ) (xs : List X) → rises_by number xs ≡ true → rises_by number (drop 1 xs) ≡ true
+pub rises-drop : {X : Type 0} (number : X → ℕ) (xs : List X) → rises_by number xs ≡ true →
+    rises_by number (drop 1 xs) ≡ true
 rises-drop number [] h = refl
 rises-drop number (x ∷ xs) h = grind (arith, common_steps)

@@ -26,17 +26,21 @@ found from n (e ∷ es) named =
 
 -- the runs once one was put in
 pub runs-put : (from n : ℕ) (run : Run) (es : List (ℕ × Run)) → from ≤ n → run.first ≡ n → are_named es ≡ true
-    → stands n (runs_under from es) ≡ false → runs_under from (put nat_cmp n run es) ≡ with_run run (runs_under from es)
+    → stands n (runs_under from es) ≡ false →
+    runs_under from (put nat_cmp n run es) ≡ with_run run (runs_under from es)
 runs-put from n run [] le same named fresh = grind (arith, common_steps)
 runs-put from n run (e ∷ es) le same named fresh = grind (arith, common_steps, runs-put from n run es)
 
 -- a window that ends within the runs' own leaves none of them out
-pub runs-left : (from n : ℕ) (newest : Option ℕ) (es : List (ℕ × Run)) → is_near from newest ≡ true → n < from + WINDOW
-    → are_inside newest es ≡ true → runs_under from (where_key nat_cmp (in_window (newest_with newest n)) es) ≡ runs_under from es
+pub runs-left : (from n : ℕ) (newest : Option ℕ) (es : List (ℕ × Run)) → is_near from newest ≡ true →
+    n < from + WINDOW
+    → are_inside newest es ≡ true →
+    runs_under from (where_key nat_cmp (in_window (newest_with newest n)) es) ≡ runs_under from es
 runs-left from n None [] near lt inside = refl
 runs-left from n None (e ∷ es) near lt inside = grind (arith, common_steps)
 runs-left from n (Some newest) [] near lt inside = refl
-runs-left from n (Some newest) (e ∷ es) near lt inside = grind (arith, common_steps, runs-left from n (Some newest) es)
+runs-left from n (Some newest) (e ∷ es) near lt inside =
+    grind (arith, common_steps, runs-left from n (Some newest) es)
 
 -- the runs from a later number on
 pub runs-later : (from next : ℕ) (es : List (ℕ × Run)) → from ≤ next → are_named es ≡ true
@@ -61,7 +65,8 @@ pub runs-low : (from : ℕ) (es : List (ℕ × Run)) → are_named es ≡ true
 runs-low from [] named = refl
 runs-low from (e ∷ es) named = grind (arith, common_steps, runs-low from es)
 
-pub runs-high : (from : ℕ) (newest : Option ℕ) (es : List (ℕ × Run)) → are_named es ≡ true → is_near from newest ≡ true
+pub runs-high : (from : ℕ) (newest : Option ℕ) (es : List (ℕ × Run)) → are_named es ≡ true →
+    is_near from newest ≡ true
     → are_inside newest es ≡ true → list_all (λ run. nat_lt run.first (from + WINDOW)) (runs_under from es) ≡ true
 runs-high from newest [] named near inside = refl
 runs-high from None (e ∷ es) named near inside = grind (arith, common_steps)
@@ -73,7 +78,8 @@ pub keys-from : (last : ℕ) (runs : List Run)
 keys-from n [] = refl
 keys-from n (run ∷ runs) = grind (arith, common_steps, keys-from n runs)
 
-pub keys-beyond : (n : ℕ) (runs : List Run) → beyond (λ run. run.first) n runs ≡ true → beyond (λ m. m) n (key_numbers runs) ≡ true
+pub keys-beyond : (n : ℕ) (runs : List Run) → beyond (λ run. run.first) n runs ≡ true →
+    beyond (λ m. m) n (key_numbers runs) ≡ true
 keys-beyond n [] h = refl
 keys-beyond n (run ∷ runs) h = grind (arith, common_steps, keys-beyond n runs)
 
@@ -105,7 +111,8 @@ keys-with run (r ∷ rs) rise =
     let P : Bool → Type 0 = λ b. key_numbers (cond b (run ∷ r ∷ rs) (r ∷ with_run run rs))
     ≡ cond run.key (put_by (λ m. m) run.first (key_numbers (r ∷ rs))) (key_numbers (r ∷ rs)) in
     elim (nat_lt run.first r.first) as (λ b. nat_lt run.first r.first ≡ b → P b) [
-      | true ↦ λ lt. keys-before run (r ∷ rs) (grind (arith, common_steps, beyond-less (λ r. r.first) run.first r.first rs))
+      | true ↦ λ lt. keys-before run (r ∷ rs)
+          (grind (arith, common_steps, beyond-less (λ r. r.first) run.first r.first rs))
       | false ↦ λ ge. keys-past run r rs (with_run run rs) ge (keys-with run rs (grind (arith, common_steps)))
     ] refl
 
@@ -119,7 +126,8 @@ key-head : (n m : ℕ) (runs : List Run) → Some n ≡ slice_get (key_numbers r
 key-head n m [] h b = absurd (none-some n (sym h))
 key-head n m (r ∷ rs) h b = grind (arith, common_steps, key-head n m rs)
 
-pub least-some : (n : ℕ) (runs : List Run) → rises_by (λ r. r.first) runs ≡ true → Some n ≡ slice_get (key_numbers runs) 0
+pub least-some : (n : ℕ) (runs : List Run) → rises_by (λ r. r.first) runs ≡ true →
+    Some n ≡ slice_get (key_numbers runs) 0
     → find (λ run. run.key) runs ≡ find (λ run. run.first == n) runs
 least-some n [] rise h = refl
 least-some n (r ∷ rs) rise h = grind (arith, common_steps, least-some n rs, key-head n r.first rs)
@@ -169,7 +177,8 @@ from-zero n [] h = refl
 from-zero n (r ∷ rs) h = grind (arith, common_steps, from-zero n rs)
 
 -- what stands beyond a number stays where the runs up to one below it go
-pub from-low : (n m : ℕ) (runs : List Run) → list_all (λ run. nat_le m run.first) runs ≡ true → n ≤ m → runs ≡ runs_from n runs
+pub from-low : (n m : ℕ) (runs : List Run) → list_all (λ run. nat_le m run.first) runs ≡ true → n ≤ m →
+    runs ≡ runs_from n runs
 from-low n m [] h le = refl
 from-low n m (r ∷ rs) h le = grind (arith, common_steps, from-low n m rs)
 
@@ -179,12 +188,15 @@ pub all-where : (p : ℕ × Run → Bool) (q : ℕ → Bool) (es : List (ℕ × 
 all-where p q [] h = refl
 all-where p q (e ∷ es) h = grind (arith, common_steps, all-where p q es)
 
-pub all-put_in : (p : ℕ × Run → Bool) (n : ℕ) (run : Run) (es : List (ℕ × Run)) → ((m : ℕ) → m ≡ n → p (m, run) ≡ true)
+pub all-put_in : (p : ℕ × Run → Bool) (n : ℕ) (run : Run) (es : List (ℕ × Run)) →
+    ((m : ℕ) → m ≡ n → p (m, run) ≡ true)
     → list_all p es ≡ true → list_all p (put nat_cmp n run es) ≡ true
 all-put_in p n run [] one h = let here = one n refl in grind (arith, common_steps, here)
-all-put_in p n run (e ∷ es) one h = let here = one n refl in grind (arith, common_steps, all-put_in p n run es, one, here)
+all-put_in p n run (e ∷ es) one h = let here =
+    one n refl in grind (arith, common_steps, all-put_in p n run es, one, here)
 
-pub inside-left : (newest : ℕ) (es : List (ℕ × Run)) → are_inside (Some newest) (where_key nat_cmp (in_window newest) es) ≡ true
+pub inside-left : (newest : ℕ) (es : List (ℕ × Run)) →
+    are_inside (Some newest) (where_key nat_cmp (in_window newest) es) ≡ true
 inside-left newest [] = refl
 inside-left newest (e ∷ es) = grind (arith, common_steps, inside-left newest es)
 

@@ -54,20 +54,30 @@ module _ (settings : Settings) (codec : Meaning) (sender : Sender) (honest : Hon
         record {
           sent = p.0.sent;
           is = p.0.is;
-          numbered = record { from = n.from; to = n.to; spans = n.spans; first_is = IsNumber-grown sender i js n.from run.first n.first_is; last_is = IsNumber-grown sender i js n.to run.last n.last_is };
+          numbered = record {
+              from = n.from; to = n.to; spans = n.spans; first_is =
+              IsNumber-grown sender i js n.from run.first n.first_is; last_is =
+              IsNumber-grown sender i js n.to run.last n.last_is };
         },
         pulled_grown i js fs runs p.1,
       )
 
   -- a frame whose first number lies beyond the last of another comes after it
-  pub frame_after : (js : List ℕ) (f g : ℕ) (old frame : SentFrame) (first last n : ℕ) → slice_get sender.frames f ≡ Some old → HasNumbers sender js f first last → slice_get sender.frames g ≡ Some frame → IsNumber sender js (honest.place g) n → last < n → f < g
+  pub frame_after : (js : List ℕ) (f g : ℕ) (old frame : SentFrame) (first last n : ℕ) →
+      slice_get sender.frames f ≡ Some old → HasNumbers sender js f first last →
+      slice_get sender.frames g ≡ Some frame → IsNumber sender js (honest.place g) n → last < n → f < g
   frame_after js f g old frame first last n there numbered is place_is beyond =
-      let less : numbered.to < honest.place g = IsNumber-below sender js numbered.to (honest.place g) last n numbered.last_is place_is beyond in
-      let ends : numbered.to + 1 ≡ honest.place f + size settings codec sender honest f = (one_span settings codec sender honest f old numbered.from numbered.to there numbered.spans).1 in
-      let upto : f ≤ g = frame_upto settings codec sender honest f g frame is (slice_get_within sender.frames f old there) (omega arith) in
-      let t : Travels settings codec sender f old (honest.place f) (honest.parts f) = frame_travels settings codec sender honest f old there in
+      let less : numbered.to < honest.place g =
+          IsNumber-below sender js numbered.to (honest.place g) last n numbered.last_is place_is beyond in
+      let ends : numbered.to + 1 ≡ honest.place f + size settings codec sender honest f =
+          (one_span settings codec sender honest f old numbered.from numbered.to there numbered.spans).1 in
+      let upto : f ≤ g = frame_upto settings codec sender honest f g frame is
+          (slice_get_within sender.frames f old there) (omega arith) in
+      let t : Travels settings codec sender f old (honest.place f) (honest.parts f) =
+          frame_travels settings codec sender honest f old there in
       let some : 0 < size settings codec sender honest f = t.some in
-      let apart : f ≡ g → ⊥ = λ same. let place_is : honest.place f ≡ honest.place g = ap honest.place same in omega arith in
+      let apart : f ≡ g → ⊥ = λ same. let place_is : honest.place f ≡ honest.place g =
+          ap honest.place same in omega arith in
       omega arith
 
   -- the places from which a frame may come now
@@ -76,24 +86,31 @@ module _ (settings : Settings) (codec : Meaning) (sender : Sender) (honest : Hon
   bound_of (f ∷ fs) = f + 1
 
   -- a frame beyond the last frame pulled comes after it
-  pub bound_upto : (js fs : List ℕ) (runs : List Run) (g : ℕ) (frame : SentFrame) (run : Run) → ArePulled js fs runs → slice_get sender.frames g ≡ Some frame → IsNumber sender js (honest.place g) run.first → stands (last_pulled runs) run ≡ true → bound_of fs ≤ g
+  pub bound_upto : (js fs : List ℕ) (runs : List Run) (g : ℕ) (frame : SentFrame) (run : Run) → ArePulled js fs runs →
+      slice_get sender.frames g ≡ Some frame → IsNumber sender js (honest.place g) run.first →
+      stands (last_pulled runs) run ≡ true → bound_of fs ≤ g
   bound_upto js [] runs g frame run p is numbered beyond = omega arith
   bound_upto js (f ∷ fs) [] g frame run p is numbered beyond = absurd p
   bound_upto js (f ∷ fs) (old ∷ runs) g frame run p is numbered beyond =
-      let less : f < g = frame_after js f g p.0.sent frame old.first old.last run.first p.0.is p.0.numbered is numbered (stands-beyond (Some old.last) run beyond) in
+      let less : f < g = frame_after js f g p.0.sent frame old.first old.last run.first p.0.is p.0.numbered is
+          numbered (stands-beyond (Some old.last) run beyond) in
       omega arith
 
   -- before the first event
   pub opening-holds : Took sender (opening ∷ []) [] → Holds (opening ∷ []) [] []
-  opening-holds took = record { took = took; pulled = tt; closed = λ f g c way. absurd (Contains-empty f c); front = refl }
+  opening-holds took =
+      record { took = took; pulled = tt; closed = λ f g c way. absurd (Contains-empty f c); front = refl }
 
   module _ (past : List Snapshot) (js fs : List ℕ) (h : Holds past js fs) (moment : ℕ) where
     -- a datagram that isn't taken
-    refused-holds : (left : NotTaken) → Took sender (after_datagram codec past moment (Err left) ∷ past) js → Holds (after_datagram codec past moment (Err left) ∷ past) js fs
+    refused-holds : (left : NotTaken) → Took sender (after_datagram codec past moment (Err left) ∷ past) js →
+        Holds (after_datagram codec past moment (Err left) ∷ past) js fs
     refused-holds left took = record { took = took; pulled = h.pulled; closed = h.closed; front = h.front }
 
     -- a datagram of the sender, whatever the verdict
-    pub datagram-holds : (i : ℕ) (r : Result (ℕ × Content) NotTaken) → Took sender (after_datagram codec past moment r ∷ past) (if is_ok r then i ∷ js else js) → Holds (after_datagram codec past moment r ∷ past) (if is_ok r then i ∷ js else js) fs
+    pub datagram-holds : (i : ℕ) (r : Result (ℕ × Content) NotTaken) →
+        Took sender (after_datagram codec past moment r ∷ past) (if is_ok r then i ∷ js else js) →
+        Holds (after_datagram codec past moment r ∷ past) (if is_ok r then i ∷ js else js) fs
     datagram-holds i (Err left) took = refused-holds left took
     datagram-holds i (Ok (n, content)) took =
         let s : Snapshot = latest past in
@@ -102,29 +119,38 @@ module _ (settings : Settings) (codec : Meaning) (sender : Sender) (honest : Hon
           took = took;
           pulled = pulled_grown i js fs s.pulled h.pulled;
           closed = h.closed;
-          front = front-stays sender settings codec honest (i ∷ js) t.window.packets took.here.kept s.front (last_pulled s.pulled) (front-grown sender i js (last_pulled s.pulled) s.front h.front);
+          front = front-stays sender settings codec honest (i ∷ js) t.window.packets took.here.kept s.front
+              (last_pulled s.pulled) (front-grown sender i js (last_pulled s.pulled) s.front h.front);
         }
 
     -- a datagram of nobody, whatever the verdict, if it leaves the packets taken
-    pub aside-holds : (left : NotTaken) (r : Result (ℕ × Content) NotTaken) → r ≡ Err left → Took sender (after_datagram codec past moment r ∷ past) js → Holds (after_datagram codec past moment r ∷ past) js fs
+    pub aside-holds : (left : NotTaken) (r : Result (ℕ × Content) NotTaken) → r ≡ Err left →
+        Took sender (after_datagram codec past moment r ∷ past) js →
+        Holds (after_datagram codec past moment r ∷ past) js fs
     aside-holds left (Err other) is took = refused-holds other took
     aside-holds left (Ok x) is took = absurd (cc)
 
     -- a tick
-    pub tick-holds : Took sender (after_tick settings past moment ∷ past) js → Holds (after_tick settings past moment ∷ past) js fs
+    pub tick-holds : Took sender (after_tick settings past moment ∷ past) js →
+        Holds (after_tick settings past moment ∷ past) js fs
     tick-holds took = record { took = took; pulled = h.pulled; closed = h.closed; front = h.front }
 
     -- a pull that gives nothing
-    pub none-holds : Took sender (after_pull codec past moment None ∷ past) js → Holds (after_pull codec past moment None ∷ past) js fs
+    pub none-holds : Took sender (after_pull codec past moment None ∷ past) js →
+        Holds (after_pull codec past moment None ∷ past) js fs
     none-holds took = record { took = took; pulled = h.pulled; closed = h.closed; front = h.front }
 
     -- a pull that gives a frame, whose chain was pulled
-    pub frame-holds : (run : Run) (f : ℕ) → IsPulled js f run → ((g : ℕ) → InChain sender f g → Contains fs g) → IfSome (last_pulled (latest past).pulled) (λ last. last ≤ run.last) → Took sender (after_pull codec past moment (Some run) ∷ past) js → Holds (after_pull codec past moment (Some run) ∷ past) js (f ∷ fs)
+    pub frame-holds : (run : Run) (f : ℕ) → IsPulled js f run → ((g : ℕ) → InChain sender f g → Contains fs g) →
+        IfSome (last_pulled (latest past).pulled) (λ last. last ≤ run.last) →
+        Took sender (after_pull codec past moment (Some run) ∷ past) js →
+        Holds (after_pull codec past moment (Some run) ∷ past) js (f ∷ fs)
     frame-holds run f is chain rises took = record {
       took = took;
       pulled = (is, h.pulled);
       closed = closed;
-      front = front-moves sender settings codec honest js (latest past).window.packets h.took.here.kept (latest past).front (last_pulled (latest past).pulled) run.last h.front rises;
+      front = front-moves sender settings codec honest js (latest past).window.packets h.took.here.kept
+          (latest past).front (last_pulled (latest past).pulled) run.last h.front rises;
     } where
       closed : Closed (f ∷ fs)
       closed k g there way = elim (Contains-either f fs k there) [

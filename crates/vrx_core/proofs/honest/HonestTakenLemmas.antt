@@ -1,7 +1,7 @@
 -- What a receiver takes and keeps in an honest call, said in the sender's terms.
 use Rattle.std.proofs.Common.{◌≡◌, ℕ, ◌+◌, ◌<◌, ◌≤◌, ◌↔◌, max, true, false, Bool, List, [], ◌∷◌, slice_get, Contains, Option, Some, None, IsSomeAnd, is_some, is_ok, Result, Ok, Err, refl, sym, ◌∙◌, ap, subst, arith}
 use Rattle.std.proofs.lemmas.Bool.{both_ways, false_from_ne_true, lt-leb, true≢false}
-use Rattle.vrx_num.specs.Extended.{Extends, GivesMeant, extended}
+use Rattle.vrx_num.specs.Extended.{Extends, GivesMeant, extended_number}
 use Rattle.vrx_num.specs.declared.limits.TheConstants.{WINDOW, HALF_SPACE}
 use Rattle.vrx_codec.specs.Meaning.{Meaning}
 use Rattle.vrx_window.specs.Content.{Content}
@@ -13,9 +13,9 @@ use Rattle.vrx_core.specs.machine.Verdict.{verdict}
 use Rattle.vrx_core.specs.machine.GivenUp.{is_lost}
 use Rattle.vrx_core.specs.machine.Machine.{latest, next_run, what_of, what_in, answer_taken, snapshots, reply}
 use Rattle.vrx_core.specs.honest.Sender.{SentPacket, Sender, wire_of}
-use Rattle.vrx_core.specs.honest.WireForm.{brought_by}
+use Rattle.vrx_core.specs.honest.WireForm.{content_sent}
 use Rattle.vrx_core.specs.honest.HonestSender.{HonestSender}
-use Rattle.vrx_core.specs.honest.HonestNetwork.{Origin, FromSender, Elsewhere, IsNear, IsDelivery, HonestNetwork, greatest, taken}
+use Rattle.vrx_core.specs.honest.HonestNetwork.{Origin, FromSender, Elsewhere, IsNear, IsDelivery, HonestNetwork, greatest, packets_taken}
 use Rattle.vrx_core.specs.honest.HonestTaken.{IsInReach, IsToTake, IsToKeep, KeepsRightly, TakesPacket, IsTakenRightly, TakesRightly, HonestTakenHolds}
 use Rattle.vrx_core.specs.honest.Ready.{IsNumber}
 use Rattle.vrx_core.specs.declared.settings.Settings.{Settings}
@@ -36,8 +36,10 @@ use Rattle.vrx_core.proofs.honest.WireLemmas.{Brings, brings}
 use Rattle.vrx_core.proofs.honest.TookLemmas.{TookNow, Took, opening-took, brought-took, aside-took, tick-took, pull-took}
 
 -- a list of which nothing is available
-nothing_there : (sender : Sender) (packets : Packets) (n : ℕ) → Keeps sender [] packets → is_available n packets ≡ false
-nothing_there sender packets n keeps = false_from_ne_true (is_available n packets) (λ h. Contains-empty (keeps.from n h).0 (keeps.from n h).1)
+nothing_there : (sender : Sender) (packets : Packets) (n : ℕ) → Keeps sender [] packets →
+    is_available n packets ≡ false
+nothing_there sender packets n keeps =
+    false_from_ne_true (is_available n packets) (λ h. Contains-empty (keeps.from n h).0 (keeps.from n h).1)
 
 -- an Ok has a value
 ok_value : (r : Result (ℕ × Content) NotTaken) → is_ok r ≡ true → (x : ℕ × Content) × (r ≡ Ok x)
@@ -50,46 +52,68 @@ record ToTake (sender : Sender) (lost : ℕ → Bool) (i : ℕ) (js : List ℕ) 
   not_taken : Contains js i → ⊥
   not_lost : (n : ℕ) → IsNumber sender js i n → lost n ≡ false
 
-module _ (meant : GivesMeant) (settings : Settings) (codec : Meaning) (sender : Sender) (window : Contents Content) (lost : ℕ → Bool) (match : Matches window lost) (i : ℕ) (octets : List ℕ) (b : Brings settings codec sender i octets) where
+module _ (meant : GivesMeant) (settings : Settings) (codec : Meaning) (sender : Sender) (window : Contents Content)
+    (lost : ℕ → Bool) (match : Matches window lost) (i : ℕ) (octets : List ℕ)
+    (b : Brings settings codec sender i octets) where
   -- the verdict on it
   abbrev v : Result (ℕ × Content) NotTaken
   v = verdict settings codec window octets
 
   -- if it is taken, it is as this number, and as what it brings
-  taken_is : (n : ℕ) (content : Content) → v ≡ Ok (n, content) → (extended window.newest (wire_of sender i) ≡ Some n) × (content ≡ brought_by b.packet) × (would_of window n ≡ placings.Fresh)
-  taken_is n content is = verdict_taken settings codec window octets (record { wire = wire_of sender i; content = brought_by b.packet }) n content b.is is
+  taken_is : (n : ℕ) (content : Content) → v ≡ Ok (n, content) →
+      (extended_number window.newest (wire_of sender i) ≡ Some n) × (content ≡ content_sent b.packet)
+      × (would_of window n ≡ placings.Fresh)
+  taken_is n content is = verdict_taken settings codec window octets
+      (record { wire = wire_of sender i; content = content_sent b.packet }) n content b.is is
 
   -- a number that is neither too old nor given up nor available is taken
-  take_is : (n : ℕ) → extended window.newest (wire_of sender i) ≡ Some n → is_too_old window.newest n ≡ false → lost n ≡ false → is_available n window.packets ≡ false → is_ok v ≡ true
-  take_is n number old alive again = ap is_ok (verdict_take settings codec window octets (record { wire = wire_of sender i; content = brought_by b.packet }) n b.is number (fresh-from window n (record { young = old; alive = match.dead n old ∙ alive; free = again })))
+  take_is : (n : ℕ) → extended_number window.newest (wire_of sender i) ≡ Some n → is_too_old window.newest n ≡ false →
+      lost n ≡ false → is_available n window.packets ≡ false → is_ok v ≡ true
+  take_is n number old alive again =
+      ap is_ok (verdict_take settings codec window octets
+      (record { wire = wire_of sender i; content = content_sent b.packet }) n b.is number
+      (fresh-from window n (record { young = old; alive = match.dead n old ∙ alive; free = again })))
 
   -- the answer to a sender's datagram that is near those taken, if it is taken, is what it brings under its packet's
   -- number
-  brought-answer : (js : List ℕ) → IsNewestOf sender js window.newest → IsNear i js → is_ok v ≡ true → (n : ℕ) × IsNumber sender (i ∷ js) i n × (what_of v ≡ answer_taken n (brought_by b.packet))
+  brought-answer : (js : List ℕ) → IsNewestOf sender js window.newest → IsNear i js → is_ok v ≡ true →
+      (n : ℕ) × IsNumber sender (i ∷ js) i n × (what_of v ≡ answer_taken n (content_sent b.packet))
   brought-answer js newest near h =
       let x : (x : ℕ × Content) × (v ≡ Ok x) = ok_value v h in
-      let took : (extended window.newest (wire_of sender i) ≡ Some x.0.0) × (x.0.1 ≡ brought_by b.packet) × (would_of window x.0.0 ≡ placings.Fresh) = taken_is x.0.0 x.0.1 x.1 in
-      (x.0.0, taken-number meant sender js window.newest i x.0.0 newest near took.0, ap what_of x.1 ∙ ap (answer_taken x.0.0) took.1)
+      let took : (extended_number window.newest (wire_of sender i) ≡ Some x.0.0) × (x.0.1 ≡ content_sent b.packet)
+          × (would_of window x.0.0 ≡ placings.Fresh) = taken_is x.0.0 x.0.1 x.1 in
+      (x.0.0, taken-number meant sender js window.newest i x.0.0 newest near took.0, ap what_of x.1
+      ∙ ap (answer_taken x.0.0) took.1)
 
   -- the first packet is taken
-  first-taken : Keeps sender [] window.packets → window.newest ≡ None → is_ok v ≡ true
-  first-taken keeps none =
+  first-packets_taken : Keeps sender [] window.packets → window.newest ≡ None → is_ok v ≡ true
+  first-packets_taken keeps none =
       let n : ℕ = wire_of sender i + 65536 in
-      take_is n (ap (λ (o : Option ℕ). extended o (wire_of sender i)) none) (ap (λ (o : Option ℕ). is_too_old o n) none) (match.none none n) (nothing_there sender window.packets n keeps)
+      take_is n (ap (λ (o : Option ℕ). extended_number o (wire_of sender i)) none)
+      (ap (λ (o : Option ℕ). is_too_old o n) none) (match.none none n) (nothing_there sender window.packets n keeps)
 
-  module _ (j : ℕ) (js : List ℕ) (m : ℕ) (newest : window.newest ≡ Some m) (from : 65536 ≤ m) (number : IsNumber sender (j ∷ js) (greatest (j ∷ js)) m) (keeps : Keeps sender (j ∷ js) window.packets) (near : IsNear i (j ∷ js)) where
+  module _ (j : ℕ) (js : List ℕ) (m : ℕ) (newest : window.newest ≡ Some m) (from : 65536 ≤ m)
+      (number : IsNumber sender (j ∷ js) (greatest (j ∷ js)) m) (keeps : Keeps sender (j ∷ js) window.packets)
+      (near : IsNear i (j ∷ js)) where
     -- its number beside the newest
-    later-number : extended window.newest (wire_of sender i) ≡ extended (Some m) (wire_of sender i)
-    later-number = ap (λ (o : Option ℕ). extended o (wire_of sender i)) newest
+    later-number : extended_number window.newest (wire_of sender i) ≡ extended_number (Some m) (wire_of sender i)
+    later-number = ap (λ (o : Option ℕ). extended_number o (wire_of sender i)) newest
 
     -- a later packet that is one to take is taken
-    later-taken : ToTake sender lost i (j ∷ js) → is_ok v ≡ true
-    later-taken to_take =
-        let e : (n : ℕ) × IsNumber sender (j ∷ js) i n × Extends m (wire_of sender i) n = is_number-extends sender j js m i from number to_take.in_reach.0 to_take.in_reach.1 in
-        let given : extended window.newest (wire_of sender i) ≡ Some e.0 = later-number ∙ (meant m (wire_of sender i) e.0 (omega arith) (wire_below sender i)).1 e.2 in
-        let less : m < e.0 + WINDOW = near-number sender (j ∷ js) i (greatest (j ∷ js)) e.0 m WINDOW e.1 number to_take.in_reach.1 in
-        let old : is_too_old window.newest e.0 ≡ false = ap (λ (o : Option ℕ). is_too_old o e.0) newest ∙ lt-leb (e.0 + WINDOW) m less in
-        let again : is_available e.0 window.packets ≡ false = false_from_ne_true _ (λ h. to_take.not_taken (subst (λ (x : ℕ). Contains (j ∷ js) x) (one-place sender (j ∷ js) (keeps.from e.0 h).0 i e.0 (keeps.from e.0 h).2 e.1) (keeps.from e.0 h).1)) in
+    later-packets_taken : ToTake sender lost i (j ∷ js) → is_ok v ≡ true
+    later-packets_taken to_take =
+        let e : (n : ℕ) × IsNumber sender (j ∷ js) i n × Extends m (wire_of sender i) n =
+            is_number-extends sender j js m i from number to_take.in_reach.0 to_take.in_reach.1 in
+        let given : extended_number window.newest (wire_of sender i) ≡ Some e.0 =
+            later-number ∙ (meant m (wire_of sender i) e.0 (omega arith) (wire_below sender i)).1 e.2 in
+        let less : m < e.0 + WINDOW =
+            near-number sender (j ∷ js) i (greatest (j ∷ js)) e.0 m WINDOW e.1 number to_take.in_reach.1 in
+        let old : is_too_old window.newest e.0 ≡ false =
+            ap (λ (o : Option ℕ). is_too_old o e.0) newest ∙ lt-leb (e.0 + WINDOW) m less in
+        let again : is_available e.0 window.packets ≡ false =
+            false_from_ne_true _ (λ h.
+            to_take.not_taken (subst (λ (x : ℕ). Contains (j ∷ js) x)
+            (one-place sender (j ∷ js) (keeps.from e.0 h).0 i e.0 (keeps.from e.0 h).2 e.1) (keeps.from e.0 h).1)) in
         take_is e.0 given old (to_take.not_lost e.0 e.1) again
 
     -- a later packet that is taken is one to take
@@ -97,38 +121,52 @@ module _ (meant : GivesMeant) (settings : Settings) (codec : Meaning) (sender : 
     later-to_take h =
         let x : (x : ℕ × Content) × (v ≡ Ok x) = ok_value v h in
         let n : ℕ = x.0.0 in
-        let took : (extended window.newest (wire_of sender i) ≡ Some n) × (x.0.1 ≡ brought_by b.packet) × (would_of window n ≡ placings.Fresh) = taken_is n x.0.1 x.1 in
-        let e : Extends m (wire_of sender i) n = (meant m (wire_of sender i) n (omega arith) (wire_below sender i)).0 (sym later-number ∙ took.0) in
-        let here : IsNumber sender (j ∷ js) i n = taken-number meant sender (j ∷ js) window.newest i n (m, newest, from, number) near took.0 in
+        let took : (extended_number window.newest (wire_of sender i) ≡ Some n) × (x.0.1 ≡ content_sent b.packet)
+            × (would_of window n ≡ placings.Fresh) = taken_is n x.0.1 x.1 in
+        let e : Extends m (wire_of sender i) n =
+            (meant m (wire_of sender i) n (omega arith) (wire_below sender i)).0 (sym later-number ∙ took.0) in
+        let here : IsNumber sender (j ∷ js) i n =
+            taken-number meant sender (j ∷ js) window.newest i n (m, newest, from, number) near took.0 in
         let opened : IsFresh window n = fresh-is window n took.2 in
         let less : newest_with window.newest n < n + WINDOW = open-newest window.newest n opened.young in
         let with_m : newest_with window.newest n ≡ max m n = ap (λ (o : Option ℕ). newest_with o n) newest in
         let less_m : m < n + WINDOW = omega arith in
-        let close : greatest (j ∷ js) < i + WINDOW = number-near sender (j ∷ js) i (greatest (j ∷ js)) n m WINDOW here number less_m in
+        let close : greatest (j ∷ js) < i + WINDOW =
+            number-near sender (j ∷ js) i (greatest (j ∷ js)) n m WINDOW here number less_m in
         let alive : lost n ≡ false = sym (match.dead n opened.young) ∙ opened.alive in
         record {
-          in_reach = (number-near sender (j ∷ js) (greatest (j ∷ js)) i m n HALF_SPACE number here e.not_far_ahead, close);
+          in_reach =
+              (number-near sender (j ∷ js) (greatest (j ∷ js)) i m n HALF_SPACE number here e.not_far_ahead, close);
           not_taken = λ c. both_ways (is_available n window.packets) opened.free (keeps.all i n c here close);
           not_lost = λ k is. ap lost (one-number sender (j ∷ js) i k n is here) ∙ alive;
         }
 
   -- a sender's datagram that is near those taken is taken exactly if its packet is one to take
-  rightly-taken : (js : List ℕ) → IsNewestOf sender js window.newest → Keeps sender js window.packets → IsNear i js → (is_ok v ≡ true) ↔ ToTake sender lost i js
-  rightly-taken [] newest keeps near = (λ _. record { in_reach = tt; not_taken = Contains-empty i; not_lost = λ n is. absurd is }, λ _. first-taken keeps newest)
-  rightly-taken (j ∷ js) newest keeps near = (later-to_take j js newest.0 newest.1 newest.2 newest.3 keeps near, later-taken j js newest.0 newest.1 newest.2 newest.3 keeps near)
+  rightly-packets_taken : (js : List ℕ) → IsNewestOf sender js window.newest → Keeps sender js window.packets →
+      IsNear i js → (is_ok v ≡ true) ↔ ToTake sender lost i js
+  rightly-packets_taken [] newest keeps near =
+      (λ _. record { in_reach = tt; not_taken = Contains-empty i; not_lost = λ n is. absurd is }, λ _.
+      first-packets_taken keeps newest)
+  rightly-packets_taken (j ∷ js) newest keeps near =
+      (later-to_take j js newest.0 newest.1 newest.2 newest.3 keeps near,
+      later-packets_taken j js newest.0 newest.1 newest.2 newest.3 keeps near)
 
 -- a number available is that of a packet to keep
-available_keeps : (sender : Sender) (js : List ℕ) (packets : Packets) (i n : ℕ) → Keeps sender js packets → IsNumber sender js i n → is_available n packets ≡ true → IsToKeep i js
+available_keeps : (sender : Sender) (js : List ℕ) (packets : Packets) (i n : ℕ) → Keeps sender js packets →
+    IsNumber sender js i n → is_available n packets ≡ true → IsToKeep i js
 available_keeps sender js packets i n keeps is h =
     let p : (k : ℕ) × Contains js k × IsNumber sender js k n × (greatest js < k + WINDOW) = keeps.from n h in
     subst (λ (x : ℕ). IsToKeep x js) (one-place sender js p.0 i n p.2 is) (p.1, p.3)
 
 -- a packet to keep has a number, which is available
-keeps_available : (sender : Sender) (js : List ℕ) (newest : Option ℕ) (packets : Packets) (i : ℕ) → IsNewestOf sender js newest → Keeps sender js packets → IsToKeep i js → (n : ℕ) × IsNumber sender js i n × (is_available n packets ≡ true)
+keeps_available : (sender : Sender) (js : List ℕ) (newest : Option ℕ) (packets : Packets) (i : ℕ) →
+    IsNewestOf sender js newest → Keeps sender js packets → IsToKeep i js →
+    (n : ℕ) × IsNumber sender js i n × (is_available n packets ≡ true)
 keeps_available sender [] newest packets i is keeps to_keep = absurd (Contains-empty i to_keep.0)
 keeps_available sender (j ∷ js) newest packets i is keeps to_keep =
     let upto : i ≤ greatest (j ∷ js) = greatest-upto (j ∷ js) i to_keep.0 in
-    let e : (n : ℕ) × IsNumber sender (j ∷ js) i n × Extends is.0 (wire_of sender i) n = is_number-extends sender j js is.0 i is.2 is.3 (omega arith) to_keep.1 in
+    let e : (n : ℕ) × IsNumber sender (j ∷ js) i n × Extends is.0 (wire_of sender i) n =
+        is_number-extends sender j js is.0 i is.2 is.3 (omega arith) to_keep.1 in
     (e.0, e.1, keeps.all i e.0 to_keep.0 e.1 to_keep.1)
 
 module _ (settings : Settings) (codec : Meaning) (sender : Sender) (h : List Event) (origins : List Origin) where
@@ -137,29 +175,38 @@ module _ (settings : Settings) (codec : Meaning) (sender : Sender) (h : List Eve
   packets_now = (latest (snapshots settings codec h)).window.packets
 
   -- a packet that stands at a number makes it available
-  there_available : (n : ℕ) (o : Option SentPacket) → IsSomeAnd o (λ packet. at n packets_now ≡ Some (brought_by packet)) → is_available n packets_now ≡ true
+  there_available : (n : ℕ) (o : Option SentPacket) →
+      IsSomeAnd o (λ packet. at n packets_now ≡ Some (content_sent packet)) → is_available n packets_now ≡ true
   there_available n None there = absurd there
   there_available n (Some packet) there = ap is_some there
 
   -- a packet of an available number stands there with its content
-  available_there : (i n : ℕ) → AreKept sender (taken settings codec h origins) packets_now → IsNumber sender (taken settings codec h origins) i n → is_available n packets_now ≡ true
-      → IsSomeAnd (slice_get sender.packets i) (λ packet. at n packets_now ≡ Some (brought_by packet))
+  available_there : (i n : ℕ) → AreKept sender (packets_taken settings codec h origins) packets_now →
+      IsNumber sender (packets_taken settings codec h origins) i n → is_available n packets_now ≡ true
+      → IsSomeAnd (slice_get sender.packets i) (λ packet. at n packets_now ≡ Some (content_sent packet))
   available_there i n kept is h' =
-      let p = kept-there sender (taken settings codec h origins) n packets_now kept h' in
-      subst (λ (k : ℕ). IsSomeAnd (slice_get sender.packets k) (λ packet. at n packets_now ≡ Some (brought_by packet))) (one-place sender (taken settings codec h origins) p.0 i n p.1 is) p.2
+      let p = kept-there sender (packets_taken settings codec h origins) n packets_now kept h' in
+      subst (λ (k : ℕ). IsSomeAnd (slice_get sender.packets k)
+      (λ packet. at n packets_now ≡ Some (content_sent packet)))
+      (one-place sender (packets_taken settings codec h origins) p.0 i n p.1 is) p.2
 
   -- the packets available are those to keep
-  kept_rightly : TookNow sender (latest (snapshots settings codec h)).window (taken settings codec h origins) → KeepsRightly settings codec sender h origins
+  kept_rightly : TookNow sender (latest (snapshots settings codec h)).window
+      (packets_taken settings codec h origins) → KeepsRightly settings codec sender h origins
   kept_rightly t = record {
     kept = λ i. (
-      λ k. available_keeps sender (taken settings codec h origins) packets_now i k.0 t.keeps k.1 (there_available k.0 (slice_get sender.packets i) k.2),
-      λ k. let p = keeps_available sender (taken settings codec h origins) (latest (snapshots settings codec h)).window.newest packets_now i t.newest t.keeps k in (p.0, p.1, available_there i p.0 t.kept p.1 p.2),
+      λ k. available_keeps sender (packets_taken settings codec h origins) packets_now i k.0 t.keeps k.1
+      (there_available k.0 (slice_get sender.packets i) k.2),
+      λ k. let p = keeps_available sender (packets_taken settings codec h origins)
+          (latest (snapshots settings codec h)).window.newest packets_now i t.newest t.keeps k in
+          (p.0, p.1, available_there i p.0 t.kept p.1 p.2),
     );
     only = λ n h'. let p = t.keeps.from n h' in (p.0, p.2, (p.1, p.3));
   }
 
   -- what is one to take by its numbers is one to take
-  is_to_take : (i : ℕ) → ToTake sender (is_lost (snapshots settings codec h)) i (taken settings codec h origins) → IsToTake settings codec sender h origins i
+  is_to_take : (i : ℕ) → ToTake sender (is_lost (snapshots settings codec h)) i
+      (packets_taken settings codec h origins) → IsToTake settings codec sender h origins i
   is_to_take i to = record {
     in_reach = to.in_reach;
     not_taken = to.not_taken;
@@ -167,67 +214,95 @@ module _ (settings : Settings) (codec : Meaning) (sender : Sender) (h : List Eve
   }
 
   -- and back
-  to_take : (i : ℕ) → IsToTake settings codec sender h origins i → ToTake sender (is_lost (snapshots settings codec h)) i (taken settings codec h origins)
+  to_take : (i : ℕ) → IsToTake settings codec sender h origins i →
+      ToTake sender (is_lost (snapshots settings codec h)) i (packets_taken settings codec h origins)
   to_take i to = record {
     in_reach = to.in_reach;
     not_taken = to.not_taken;
     not_lost = λ n is. false_from_ne_true (is_lost (snapshots settings codec h) n) (λ l. to.not_given_up (n, is, l));
   }
 
-  module _ (meant : GivesMeant) (law : ReadsPacket) (good : fault_of settings ≡ None) (honest : HonestSender settings codec sender) (t : Took sender (snapshots settings codec h) (taken settings codec h origins)) where
+  module _ (meant : GivesMeant) (law : ReadsPacket) (good : fault_of settings ≡ None)
+      (honest : HonestSender settings codec sender)
+      (t : Took sender (snapshots settings codec h) (packets_taken settings codec h origins)) where
     -- what was taken after one event more
-    pub took_step : (e : Event) (o : Origin) → IsDelivery settings codec sender h origins e o → Took sender (snapshots settings codec (e ∷ h)) (taken settings codec (e ∷ h) (o ∷ origins))
-    unfolding snapshots taken
+    pub took_step : (e : Event) (o : Origin) → IsDelivery settings codec sender h origins e o →
+        Took sender (snapshots settings codec (e ∷ h)) (packets_taken settings codec (e ∷ h) (o ∷ origins))
+    unfolding snapshots packets_taken
     took_step (Datagram moment octets) (FromSender i) delivery =
-        brought-took sender meant settings codec (snapshots settings codec h) (taken settings codec h origins) t moment i octets (brings law settings codec good sender honest i octets delivery.0) delivery.1
-    took_step (Datagram moment octets) Elsewhere delivery = aside-took sender meant settings codec (snapshots settings codec h) (taken settings codec h origins) t moment octets delivery
+        brought-took sender meant settings codec (snapshots settings codec h)
+        (packets_taken settings codec h origins) t moment i octets
+        (brings law settings codec good sender honest i octets delivery.0) delivery.1
+    took_step (Datagram moment octets) Elsewhere delivery =
+        aside-took sender meant settings codec (snapshots settings codec h)
+        (packets_taken settings codec h origins) t moment octets delivery
     took_step (Tick moment) (FromSender i) delivery = absurd delivery
-    took_step (Tick moment) Elsewhere delivery = tick-took sender meant settings codec (snapshots settings codec h) (taken settings codec h origins) t moment
+    took_step (Tick moment) Elsewhere delivery =
+        tick-took sender meant settings codec (snapshots settings codec h)
+        (packets_taken settings codec h origins) t moment
     took_step (Pull moment) (FromSender i) delivery = absurd delivery
-    took_step (Pull moment) Elsewhere delivery = pull-took sender meant settings codec (snapshots settings codec h) (taken settings codec h origins) t moment (next_run (latest (snapshots settings codec h)))
+    took_step (Pull moment) Elsewhere delivery =
+        pull-took sender meant settings codec (snapshots settings codec h)
+        (packets_taken settings codec h origins) t moment (next_run (latest (snapshots settings codec h)))
 
     -- a datagram of the sender is taken and answered rightly
-    takes_packet : (moment : ℕ) (octets : List ℕ) (i : ℕ) → IsDelivery settings codec sender h origins (Datagram moment octets) (FromSender i) → TakesPacket settings codec sender h origins moment octets i
+    takes_packet : (moment : ℕ) (octets : List ℕ) (i : ℕ) →
+        IsDelivery settings codec sender h origins (Datagram moment octets) (FromSender i) →
+        TakesPacket settings codec sender h origins moment octets i
     unfolding reply
     takes_packet moment octets i delivery =
         let window : Contents Content = (latest (snapshots settings codec h)).window in
-        let js : List ℕ = taken settings codec h origins in
-        let b : Brings settings codec sender i octets = brings law settings codec good sender honest i octets delivery.0 in
+        let js : List ℕ = packets_taken settings codec h origins in
+        let b : Brings settings codec sender i octets =
+            brings law settings codec good sender honest i octets delivery.0 in
         let lost : ℕ → Bool = is_lost (snapshots settings codec h) in
         let match : Matches window lost = matches settings codec h in
         let exact : (is_ok (verdict settings codec window octets) ≡ true) ↔ ToTake sender lost i js =
-        rightly-taken meant settings codec sender window lost match i octets b js t.here.newest t.here.keeps delivery.1 in
+        rightly-packets_taken meant settings codec sender window lost match i octets b js t.here.newest t.here.keeps
+        delivery.1 in
         record {
           exactly = (λ h'. is_to_take i (exact.0 h'), λ to. exact.1 (to_take i to));
           answer = λ h'.
-              let p = brought-answer meant settings codec sender window lost match i octets b js t.here.newest delivery.1 h' in
-              (p.0, p.1, some_from (λ packet. what_in (reply settings codec h (Datagram moment octets)) ≡ Some (answer_taken p.0 (brought_by packet))) (slice_get sender.packets i) b.packet b.sent (ap Some p.2));
+              let p = brought-answer meant settings codec sender window lost match i octets b js t.here.newest
+                  delivery.1 h' in
+              (p.0, p.1, some_from (λ packet.
+              what_in (reply settings codec h (Datagram moment octets)) ≡ Some
+              (answer_taken p.0 (content_sent packet))) (slice_get sender.packets i) b.packet b.sent (ap Some p.2));
         }
 
     -- an event takes what is to be taken
-    rightly_step : (e : Event) (o : Origin) → IsDelivery settings codec sender h origins e o → IsTakenRightly settings codec sender h origins e o
+    rightly_step : (e : Event) (o : Origin) → IsDelivery settings codec sender h origins e o →
+        IsTakenRightly settings codec sender h origins e o
     rightly_step (Datagram moment octets) (FromSender i) delivery = takes_packet moment octets i delivery
     rightly_step (Datagram moment octets) Elsewhere delivery = tt
     rightly_step (Tick moment) o delivery = tt
     rightly_step (Pull moment) o delivery = tt
 
 -- before the first event
-pub first_took : (settings : Settings) (codec : Meaning) (sender : Sender) → Took sender (snapshots settings codec []) (taken settings codec [] [])
-unfolding snapshots taken
+pub first_took : (settings : Settings) (codec : Meaning) (sender : Sender) →
+    Took sender (snapshots settings codec []) (packets_taken settings codec [] [])
+unfolding snapshots packets_taken
 first_took settings codec sender = opening-took sender
 
-module _ (meant : GivesMeant) (law : ReadsPacket) (settings : Settings) (codec : Meaning) (sender : Sender) (good : fault_of settings ≡ None) (honest : HonestSender settings codec sender) where
+module _ (meant : GivesMeant) (law : ReadsPacket) (settings : Settings) (codec : Meaning) (sender : Sender)
+    (good : fault_of settings ≡ None) (honest : HonestSender settings codec sender) where
   -- the rest of an honest call takes and keeps rightly
-  takes_from : (events : List Event) (h : List Event) (origins later : List Origin) → Took sender (snapshots settings codec h) (taken settings codec h origins) → HonestNetwork settings codec sender h origins events later → TakesRightly settings codec sender h origins events later
+  takes_from : (events : List Event) (h : List Event) (origins later : List Origin) →
+      Took sender (snapshots settings codec h) (packets_taken settings codec h origins) →
+      HonestNetwork settings codec sender h origins events later →
+      TakesRightly settings codec sender h origins events later
   takes_from [] h origins [] t network = kept_rightly settings codec sender h origins t.here
   takes_from [] h origins (o ∷ os) t network = absurd network
   takes_from (e ∷ es) h origins [] t network = absurd network
   takes_from (e ∷ es) h origins (o ∷ os) t network = (
     kept_rightly settings codec sender h origins t.here,
     rightly_step settings codec sender h origins meant law good honest t e o network.0,
-    takes_from es (e ∷ h) (o ∷ origins) os (took_step settings codec sender h origins meant law good honest t e o network.0) network.1,
+    takes_from es (e ∷ h) (o ∷ origins) os
+    (took_step settings codec sender h origins meant law good honest t e o network.0) network.1,
   )
 
 -- every honest call takes and keeps rightly
 pub honest_taken : GivesMeant → ReadsPacket → HonestTakenHolds
-honest_taken meant law settings codec sender events origins good honest network = takes_from meant law settings codec sender good honest events [] [] origins (first_took settings codec sender) network
+honest_taken meant law settings codec sender events origins good honest network =
+    takes_from meant law settings codec sender good honest events [] [] origins
+    (first_took settings codec sender) network

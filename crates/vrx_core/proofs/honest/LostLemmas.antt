@@ -23,9 +23,11 @@ none-below None n is below = below
 none-below (Some m) n is below = absurd (cc)
 
 -- a number below the newest one lies in the window if it isn't too old
-below-inside : (newest : Option ℕ) (n : ℕ) → IsBelow newest n → is_too_old newest n ≡ false → is_inside newest n ≡ true
+below-inside : (newest : Option ℕ) (n : ℕ) → IsBelow newest n → is_too_old newest n ≡ false →
+    is_inside newest n ≡ true
 below-inside None n below young = absurd below
-below-inside (Some m) n below young = let less : n < m = below in order-window m n (leb-false (n + WINDOW) m young) (omega (arith, less))
+below-inside (Some m) n below young = let less : n < m =
+    below in order-window m n (leb-false (n + WINDOW) m young) (omega (arith, less))
 
 -- two answers that follow from each other are the same
 same-answer : (a b : Bool) → (a ≡ true → b ≡ true) → (b ≡ true → a ≡ true) → a ≡ b
@@ -43,8 +45,10 @@ module _ (settings : Settings) (codec : Meaning) (h : List Event) where
   -- so it is after each history
   pub matches : Matches window (is_lost past)
   matches = record {
-    none = λ is n. false_from_ne_true (is_lost past n) (λ l. none-below window.newest n is (lost-below settings codec h n l));
+    none = λ is n. false_from_ne_true (is_lost past n)
+        (λ l. none-below window.newest n is (lost-below settings codec h n l));
     dead = λ n young. same-answer (is_dead n window.dead) (is_lost past n)
         (λ d. sym (dead-lost settings codec h n (dead-inside settings codec h n d)) ∙ d)
-        (λ l. dead-lost settings codec h n (below-inside window.newest n (lost-below settings codec h n l) young) ∙ l);
+        (λ l. dead-lost settings codec h n (below-inside window.newest n (lost-below settings codec h n l) young)
+        ∙ l);
   }

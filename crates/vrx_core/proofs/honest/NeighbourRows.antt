@@ -5,7 +5,7 @@ use Rattle.std.specs.Prelude.{nat_lt, ◌==◌}
 use Rattle.std.specs.List.{AllByRecursion, list_all, list_any, flat_map}
 use Rattle.std.proofs.lemmas.Bool.{and_parts, ltb-true}
 use Rattle.std.proofs.lemmas.List.Elements.{All-nil, All-from_recursion}
-use Rattle.vrx_rtp.specs.Packet.{AreOctets}
+use Rattle.vrx_num.specs.Octets.{AreOctets}
 use Rattle.vrx_codec.specs.Meaning.{Meaning}
 use Rattle.vrx_codec.specs.declared.part.Start.TheVariants.{ByNeighbour}
 use Rattle.vrx_core.specs.machine.SettingsFault.{fault_of}
@@ -13,8 +13,8 @@ use Rattle.vrx_core.specs.machine.Machine.{Reply, ToDatagram, ToPull, replies, r
 use Rattle.vrx_core.specs.honest.Sender.{SentFrame, Media, Empty, Sender}
 use Rattle.vrx_core.specs.honest.WireForm.{IsEmptyPacket}
 use Rattle.vrx_core.specs.honest.Chain.{InChain}
-use Rattle.vrx_core.specs.honest.HonestSender.{Carried, IsPart, Travels, HonestSender}
-use Rattle.vrx_core.specs.honest.HonestNetwork.{Origin, FromSender, Elsewhere, HonestNetwork, taken}
+use Rattle.vrx_core.specs.honest.HonestSender.{CarriedPart, IsPart, Travels, HonestSender}
+use Rattle.vrx_core.specs.honest.HonestNetwork.{Origin, FromSender, Elsewhere, HonestNetwork, packets_taken}
 use Rattle.vrx_core.specs.declared.settings.Settings.{Settings}
 use Rattle.vrx_core.specs.declared.event.Event.{Event}
 use Rattle.vrx_core.specs.declared.event.Event.TheVariants.{Datagram, Pull}
@@ -27,7 +27,8 @@ use Rattle.vrx_core.proofs.machine.MemberLemmas.{Contains-either, Contains-empty
 -- keyframe, and parts join to their bodies
 abbrev pub codec : Meaning
 codec = record {
-  read = λ payload. Ok (record { start = ByNeighbour; key = list_any (λ octet. octet == 5) payload; layers = None; body = payload });
+  read = λ payload. Ok (record {
+      start = ByNeighbour; key = list_any (λ octet. octet == 5) payload; layers = None; body = payload });
   join = λ parts. Ok (flat_map (λ part. part.body) parts);
 }
 
@@ -72,31 +73,39 @@ sender = record {
 }
 
 -- what the packets carry
-abbrev first_part : Carried
+abbrev first_part : CarriedPart
 first_part = record {
   text = first_text;
-  packet = record { marker = true; pt = 96; seq = 1; ts = 0; ssrc = 10; csrc = []; extension = None; payload = 5 ∷ 170 ∷ []; padding = 0 };
+  packet = record {
+      marker = true; pt = 96; seq = 1; ts = 0; ssrc = 10; csrc = []; extension = None; payload =
+      5 ∷ 170 ∷ []; padding = 0 };
   part = record { start = ByNeighbour; key = true; layers = None; body = 5 ∷ 170 ∷ [] };
 }
 
-abbrev second_part : Carried
+abbrev second_part : CarriedPart
 second_part = record {
   text = second_text;
-  packet = record { marker = false; pt = 96; seq = 2; ts = 9; ssrc = 10; csrc = []; extension = None; payload = 5 ∷ 187 ∷ []; padding = 0 };
+  packet = record {
+      marker = false; pt = 96; seq = 2; ts = 9; ssrc = 10; csrc = []; extension = None; payload =
+      5 ∷ 187 ∷ []; padding = 0 };
   part = record { start = ByNeighbour; key = true; layers = None; body = 5 ∷ 187 ∷ [] };
 }
 
-abbrev third_part : Carried
+abbrev third_part : CarriedPart
 third_part = record {
   text = third_text;
-  packet = record { marker = true; pt = 96; seq = 3; ts = 9; ssrc = 10; csrc = []; extension = None; payload = 204 ∷ []; padding = 0 };
+  packet = record {
+      marker = true; pt = 96; seq = 3; ts = 9; ssrc = 10; csrc = []; extension = None; payload = 204 ∷ []; padding =
+      0 };
   part = record { start = ByNeighbour; key = false; layers = None; body = 204 ∷ [] };
 }
 
-abbrev fourth_part : Carried
+abbrev fourth_part : CarriedPart
 fourth_part = record {
   text = fourth_text;
-  packet = record { marker = true; pt = 96; seq = 5; ts = 18; ssrc = 10; csrc = []; extension = None; payload = 221 ∷ []; padding = 0 };
+  packet = record {
+      marker = true; pt = 96; seq = 5; ts = 18; ssrc = 10; csrc = []; extension = None; payload = 221 ∷ []; padding =
+      0 };
   part = record { start = ByNeighbour; key = false; layers = None; body = 221 ∷ [] };
 }
 
@@ -105,13 +114,16 @@ are_octets : (octets : List ℕ) → list_all (λ octet. nat_lt octet 256) octet
 are_octets octets h = All-from_recursion (λ octet. octet < 256) octets (each octets h) where
   each : (os : List ℕ) → list_all (λ octet. nat_lt octet 256) os ≡ true → AllByRecursion (λ octet. octet < 256) os
   each [] h = tt
-  each (o ∷ os) h = let both = and_parts (nat_lt o 256) (list_all (λ octet. nat_lt octet 256) os) h in (ltb-true o 256 both.0, each os both.1)
+  each (o ∷ os) h = let both =
+      and_parts (nat_lt o 256) (list_all (λ octet. nat_lt octet 256) os) h in (ltb-true o 256 both.0, each os both.1)
 
 -- each packet is a part of its frame
 first_is : IsPart settings codec sender 0 first_frame 1 0 0 first_part
 first_is = record {
   sent = refl;
-  media = record { size = omega arith; below = are_octets first_text refl; reads = refl; no_padding = refl; number = refl; type = refl; source = refl; payload = λ e. cc; part_reads = refl; layers = refl };
+  media = record {
+      size = omega arith; below = are_octets first_text refl; reads = refl; no_padding = refl; number = refl; type =
+      refl; source = refl; payload = λ e. cc; part_reads = refl; layers = refl };
   timestamp = refl;
   marker = (λ e. refl, λ e. refl);
   start = tt;
@@ -120,7 +132,9 @@ first_is = record {
 second_is : IsPart settings codec sender 1 second_frame 2 0 1 second_part
 second_is = record {
   sent = refl;
-  media = record { size = omega arith; below = are_octets second_text refl; reads = refl; no_padding = refl; number = refl; type = refl; source = refl; payload = λ e. cc; part_reads = refl; layers = refl };
+  media = record {
+      size = omega arith; below = are_octets second_text refl; reads = refl; no_padding = refl; number = refl; type =
+      refl; source = refl; payload = λ e. cc; part_reads = refl; layers = refl };
   timestamp = refl;
   marker = (λ e. cc, λ e. absurd (omega arith));
   start = tt;
@@ -129,7 +143,9 @@ second_is = record {
 third_is : IsPart settings codec sender 1 second_frame 2 1 2 third_part
 third_is = record {
   sent = refl;
-  media = record { size = omega arith; below = are_octets third_text refl; reads = refl; no_padding = refl; number = refl; type = refl; source = refl; payload = λ e. cc; part_reads = refl; layers = refl };
+  media = record {
+      size = omega arith; below = are_octets third_text refl; reads = refl; no_padding = refl; number = refl; type =
+      refl; source = refl; payload = λ e. cc; part_reads = refl; layers = refl };
   timestamp = refl;
   marker = (λ e. refl, λ e. refl);
   start = tt;
@@ -138,7 +154,9 @@ third_is = record {
 fourth_is : IsPart settings codec sender 2 third_frame 1 0 4 fourth_part
 fourth_is = record {
   sent = refl;
-  media = record { size = omega arith; below = are_octets fourth_text refl; reads = refl; no_padding = refl; number = refl; type = refl; source = refl; payload = λ e. cc; part_reads = refl; layers = refl };
+  media = record {
+      size = omega arith; below = are_octets fourth_text refl; reads = refl; no_padding = refl; number = refl; type =
+      refl; source = refl; payload = λ e. cc; part_reads = refl; layers = refl };
   timestamp = refl;
   marker = (λ e. refl, λ e. refl);
   start = tt;
@@ -147,7 +165,9 @@ fourth_is = record {
 -- each frame travels
 first_travels : Travels settings codec sender 0 first_frame 0 (first_part ∷ [])
 unfolding first_is
-first_travels = record { some = omega arith; each = (first_is, tt); joins = refl; key = (λ e. (first_part, (0, omega arith, refl), refl), λ e. refl) }
+first_travels = record {
+    some = omega arith; each = (first_is, tt); joins = refl; key =
+    (λ e. (first_part, (0, omega arith, refl), refl), λ e. refl) }
 
 second_travels : Travels settings codec sender 1 second_frame 1 (second_part ∷ third_part ∷ [])
 unfolding second_is third_is
@@ -159,15 +179,16 @@ second_travels = record {
 }
 
 -- no part of the last says a keyframe
-no_key : (c : Carried) → Contains (fourth_part ∷ []) c → c.part.key ≡ true → third_frame.key ≡ true
+no_key : (c : CarriedPart) → Contains (fourth_part ∷ []) c → c.part.key ≡ true → third_frame.key ≡ true
 no_key c there key = elim (Contains-either fourth_part [] c there) [
-  | inl same ↦ ap (λ (x : Carried). x.part.key) same ∙ key
+  | inl same ↦ ap (λ (x : CarriedPart). x.part.key) same ∙ key
   | inr later ↦ absurd (Contains-empty c later)
 ]
 
 third_travels : Travels settings codec sender 2 third_frame 4 (fourth_part ∷ [])
 unfolding fourth_is
-third_travels = record { some = omega arith; each = (fourth_is, tt); joins = refl; key = (λ e. absurd (cc), λ p. no_key p.0 p.1 p.2) }
+third_travels = record {
+    some = omega arith; each = (fourth_is, tt); joins = refl; key = (λ e. absurd (cc), λ p. no_key p.0 p.1 p.2) }
 
 -- the places and the parts of the frames
 abbrev place : ℕ → ℕ
@@ -175,7 +196,7 @@ place zero = 0
 place (suc zero) = 1
 place (suc (suc f)) = 4
 
-abbrev parts : ℕ → List Carried
+abbrev parts : ℕ → List CarriedPart
 parts zero = first_part ∷ []
 parts (suc zero) = second_part ∷ third_part ∷ []
 parts (suc (suc f)) = fourth_part ∷ []
@@ -194,7 +215,8 @@ sender-honest = record {
   references = chains;
   apart = different;
 } where
-  travels : (f : ℕ) → IfSome (slice_get sender.frames f) (λ frame. Travels settings codec sender f frame (place f) (parts f))
+  travels : (f : ℕ) → IfSome (slice_get sender.frames f)
+      (λ frame. Travels settings codec sender f frame (place f) (parts f))
   travels zero = first_travels
   travels (suc zero) = second_travels
   travels (suc (suc zero)) = third_travels
@@ -208,7 +230,9 @@ sender-honest = record {
   order (suc zero) (suc (suc g)) less within = omega arith
   order (suc (suc f)) (suc (suc g)) less within = absurd (omega arith)
 
-  others : (i : ℕ) → i < length sender.packets → (slice_get sender.packets i ≡ Some Empty) ⊎ ((f : ℕ) × (f < length sender.frames) × (place f ≤ i) × (i < place f + length (parts f)))
+  others : (i : ℕ) → i < length sender.packets →
+      (slice_get sender.packets i ≡ Some Empty)
+      ⊎ ((f : ℕ) × (f < length sender.frames) × (place f ≤ i) × (i < place f + length (parts f)))
   others zero within = inr (0, omega arith, omega arith, omega arith)
   others (suc zero) within = inr (1, omega arith, omega arith, omega arith)
   others (suc (suc zero)) within = inr (1, omega arith, omega arith, omega arith)
@@ -221,7 +245,8 @@ sender-honest = record {
   chains (suc (suc zero)) = All-from_recursion (λ g. InChain sender 2 g) (1 ∷ []) (([], (refl, refl)), tt)
   chains (suc (suc (suc f))) = tt
 
-  different : (f : ℕ) → IfSome (slice_get sender.frames f) (λ frame. IfSome (slice_get sender.frames (f + 1)) (λ after. frame.ts ≢ after.ts))
+  different : (f : ℕ) → IfSome (slice_get sender.frames f)
+      (λ frame. IfSome (slice_get sender.frames (f + 1)) (λ after. frame.ts ≢ after.ts))
   different zero = λ e. omega arith
   different (suc zero) = λ e. omega arith
   different (suc (suc zero)) = tt
@@ -232,7 +257,8 @@ empty_is : IsEmptyPacket settings 4 empty_octets
 empty_is = record {
   size = omega arith;
   below = are_octets empty_octets refl;
-  packet = record { marker = false; pt = 96; seq = 4; ts = 9; ssrc = 10; csrc = []; extension = None; payload = []; padding = 1 };
+  packet = record {
+      marker = false; pt = 96; seq = 4; ts = 9; ssrc = 10; csrc = []; extension = None; payload = []; padding = 1 };
   reads = refl;
   number = refl;
   type = refl;
@@ -242,14 +268,15 @@ empty_is = record {
 
 -- the packets of the first two frames, the empty packet, a pull, the last packet, and a pull
 abbrev events : List Event
-events = Datagram 0 first_text ∷ Datagram 1 second_text ∷ Datagram 2 third_text ∷ Datagram 3 empty_octets ∷ Pull 4 ∷ Datagram 5 fourth_text ∷ Pull 6 ∷ []
+events = Datagram 0 first_text ∷ Datagram 1 second_text ∷ Datagram 2 third_text ∷ Datagram 3 empty_octets ∷ Pull 4
+    ∷ Datagram 5 fourth_text ∷ Pull 6 ∷ []
 
 abbrev origins : List Origin
 origins = FromSender 0 ∷ FromSender 1 ∷ FromSender 2 ∷ FromSender 3 ∷ Elsewhere ∷ FromSender 4 ∷ Elsewhere ∷ []
 
 -- the network is honest
 pub network-honest : HonestNetwork settings codec sender [] [] events origins
-unfolding snapshots taken empty_is
+unfolding snapshots packets_taken empty_is
 network-honest = (
   (inl refl, tt),
   (
@@ -268,8 +295,10 @@ answered what = ToDatagram (record { what = what; repaired = []; feedback = reco
 -- the first frame isn't given, since nothing tells that it begins with its packet; the second begins after the end of
 -- the first; and the third follows it over the empty packet
 pub frames_pulled : replies settings codec [] events
-    ≡ answered (what.Media 65537) ∷ answered (what.Media 65538) ∷ answered (what.Media 65539) ∷ answered (what.Empty 65540)
+    ≡ answered (what.Media 65537) ∷ answered (what.Media 65538) ∷ answered (what.Media 65539) ∷ answered
+    (what.Empty 65540)
     ∷ ToPull (Frame (record { first = 65538; last = 65539; ts = 9; key = true; bytes = 5 ∷ 187 ∷ 204 ∷ [] }))
-    ∷ answered (what.Media 65541) ∷ ToPull (Frame (record { first = 65541; last = 65541; ts = 18; key = false; bytes = 221 ∷ [] })) ∷ []
+    ∷ answered (what.Media 65541) ∷ ToPull
+    (Frame (record { first = 65541; last = 65541; ts = 18; key = false; bytes = 221 ∷ [] })) ∷ []
 unfolding replies reply snapshots
 frames_pulled = refl

@@ -13,16 +13,16 @@ use Rattle.vrx_codec.specs.declared.part.Start.TheVariants.{Yes, No, ByNeighbour
 use Rattle.vrx_num.specs.declared.limits.TheConstants.{WINDOW}
 use Rattle.vrx_window.specs.Content as contents
 use Rattle.vrx_window.specs.Window.{at, is_available}
-use Rattle.vrx_frames.specs.Run.{Packets, Run, Piece, begins, ends_frame, stands, stands_behind, is_start, is_passed}
+use Rattle.vrx_frames.specs.Run.{Packets, Run, Piece, begins, ends_frame, stands, stands_after_end, is_start, is_passed}
 use Rattle.vrx_frames.specs.IsRun.{IsPiece, ArePieces, RunsAre}
-use Rattle.vrx_core.specs.machine.Standing.{began_behind}
+use Rattle.vrx_core.specs.machine.Standing.{began_after_end}
 use Rattle.vrx_core.specs.machine.Deliverable.{is_evident, is_deliverable, answer}
 use Rattle.vrx_core.specs.machine.Machine.{latest, last_pulled, frame_of, snapshots, times}
 use Rattle.vrx_core.specs.honest.Sender.{SentFrame, SentPacket, Media, Empty, Sender, IsOf}
-use Rattle.vrx_core.specs.honest.WireForm.{brought_by}
+use Rattle.vrx_core.specs.honest.WireForm.{content_sent}
 use Rattle.vrx_core.specs.honest.Chain.{IsRuleReference, Leads, InChain}
-use Rattle.vrx_core.specs.honest.HonestSender.{Carried, IsPart, Travels, HonestSender}
-use Rattle.vrx_core.specs.honest.HonestNetwork.{Origin, greatest, taken}
+use Rattle.vrx_core.specs.honest.HonestSender.{CarriedPart, IsPart, Travels, HonestSender}
+use Rattle.vrx_core.specs.honest.HonestNetwork.{Origin, greatest, packets_taken}
 use Rattle.vrx_core.specs.honest.Ready.{IsNumber, HasNumbers, SaysStart, BeginsEvidently, StandsComplete, Follows, Ready}
 use Rattle.vrx_core.specs.honest.HonestRuns.{IsFrameRun}
 use Rattle.vrx_core.specs.honest.HonestCall.{IsSentFrame, IsLeastReady}
@@ -47,7 +47,8 @@ pub of_all : {X : Type 0} (P : X → Type 0) (xs : List X) (x : X) → All P xs 
 of_all {X = X} P xs x all there = by_recursion xs (recursion_from_All P xs all) there where
   by_recursion : (ys : List X) → AllByRecursion P ys → Contains ys x → P x
   by_recursion [] each c = absurd (omega arith)
-  by_recursion (y ∷ ys) each c = elim (Contains-either y ys x c) [ inl same ↦ subst P same each.0 | inr later ↦ by_recursion ys each.1 later ]
+  by_recursion (y ∷ ys) each c =
+      elim (Contains-either y ys x c) [ inl same ↦ subst P same each.0 | inr later ↦ by_recursion ys each.1 later ]
 
 -- and what follows from it holds of each
 pub all_more : {X : Type 0} (P Q : X → Type 0) (xs : List X) → ((x : X) → P x → Q x) → All P xs → All Q xs
@@ -57,8 +58,11 @@ all_more {X = X} P Q xs more all = All-from_recursion Q xs (by_recursion xs (rec
   by_recursion (y ∷ ys) each = (more y each.0, by_recursion ys each.1)
 
 -- a run that stands and is a keyframe is deliverable
-deliverable_key : (pulled front : Option ℕ) (run : Run) → stands pulled run ≡ true → run.key ≡ true → is_deliverable pulled front run ≡ true
-deliverable_key pulled front run beyond key = and_from (stands pulled run) (run.key || (is_none run.layers && is_evident pulled front run)) beyond (ap (λ b. b || (is_none run.layers && is_evident pulled front run)) key)
+deliverable_key : (pulled front : Option ℕ) (run : Run) → stands pulled run ≡ true → run.key ≡ true →
+    is_deliverable pulled front run ≡ true
+deliverable_key pulled front run beyond key =
+    and_from (stands pulled run) (run.key || (is_none run.layers && is_evident pulled front run)) beyond
+    (ap (λ b. b || (is_none run.layers && is_evident pulled front run)) key)
 
 -- one test or another that holds
 or_right_true : (a b : Bool) → b ≡ true → (a || b) ≡ true
@@ -66,18 +70,24 @@ or_right_true true b h = refl
 or_right_true false b h = h
 
 -- a run that stands, has no layers and evidently follows the last frame pulled is deliverable
-deliverable_next : (pulled front : Option ℕ) (run : Run) → stands pulled run ≡ true → run.layers ≡ None → is_some pulled ≡ true → is_passed front (run.first - 1) ≡ true → is_deliverable pulled front run ≡ true
+deliverable_next : (pulled front : Option ℕ) (run : Run) → stands pulled run ≡ true → run.layers ≡ None →
+    is_some pulled ≡ true → is_passed front (run.first - 1) ≡ true → is_deliverable pulled front run ≡ true
 deliverable_next pulled front run beyond layers some passed =
     and_from (stands pulled run) (run.key || (is_none run.layers && is_evident pulled front run)) beyond
     (or_right_true run.key (is_none run.layers && is_evident pulled front run)
-    (and_from (is_none run.layers) (is_evident pulled front run) (ap is_none layers) (and_from (is_some pulled) (is_passed front (run.first - 1)) some passed)))
+    (and_from (is_none run.layers) (is_evident pulled front run) (ap is_none layers)
+    (and_from (is_some pulled) (is_passed front (run.first - 1)) some passed)))
 
 -- a deliverable run that isn't key evidently follows the last frame pulled
-next_evident : (pulled front : Option ℕ) (run : Run) → is_deliverable pulled front run ≡ true → run.key ≡ false → (is_some pulled ≡ true) × (is_passed front (run.first - 1) ≡ true)
+next_evident : (pulled front : Option ℕ) (run : Run) → is_deliverable pulled front run ≡ true → run.key ≡ false →
+    (is_some pulled ≡ true) × (is_passed front (run.first - 1) ≡ true)
 next_evident pulled front run h no_key =
-    let either : (run.key || (is_none run.layers && is_evident pulled front run)) ≡ true = (and_parts (stands pulled run) (run.key || (is_none run.layers && is_evident pulled front run)) h).1 in
-    let second : (is_none run.layers && is_evident pulled front run) ≡ true = sym (ap (λ b. b || (is_none run.layers && is_evident pulled front run)) no_key) ∙ either in
-    and_parts (is_some pulled) (is_passed front (run.first - 1)) (and_parts (is_none run.layers) (is_evident pulled front run) second).1
+    let either : (run.key || (is_none run.layers && is_evident pulled front run)) ≡ true =
+        (and_parts (stands pulled run) (run.key || (is_none run.layers && is_evident pulled front run)) h).1 in
+    let second : (is_none run.layers && is_evident pulled front run) ≡ true =
+        sym (ap (λ b. b || (is_none run.layers && is_evident pulled front run)) no_key) ∙ either in
+    and_parts (is_some pulled) (is_passed front (run.first - 1))
+    (and_parts (is_none run.layers) (is_evident pulled front run) second).1
 
 -- if no frame was pulled, a deliverable run is a keyframe
 pub first_key : (front : Option ℕ) (run : Run) → is_deliverable None front run ≡ true → run.key ≡ true
@@ -95,12 +105,18 @@ last_there (r ∷ rs) run c = refl
 before_or_behind : (n m : ℕ) → (n ≤ m) ⊎ (m < n)
 before_or_behind zero m = inl (omega arith)
 before_or_behind (suc n) zero = inr (omega arith)
-before_or_behind (suc n) (suc m) = elim (before_or_behind n m) [ inl upto ↦ inl (omega arith) | inr less ↦ inr (omega arith) ]
+before_or_behind (suc n) (suc m) =
+    elim (before_or_behind n m) [ inl upto ↦ inl (omega arith) | inr less ↦ inr (omega arith) ]
 
-module _ (are : RunsAre) (settings : Settings) (codec : Meaning) (sender : Sender) (honest : HonestSender settings codec sender) where
+module _ (are : RunsAre) (settings : Settings) (codec : Meaning) (sender : Sender)
+    (honest : HonestSender settings codec sender) where
   -- after the last frame pulled, and after the empty packets that follow it, stands a first part
-  passed_first : (js fs : List ℕ) (runs : List Run) (front : Option ℕ) (i n : ℕ) (s : IsSent settings codec sender honest i) → ArePulled settings codec sender honest js fs runs → IsFrontOf sender js (last_pulled runs) front → IfSome (last_pulled runs) (λ last. last < n) → IsNumber sender js i n → is_passed front (n - 1) ≡ true → s.k ≡ 0
-  passed_first js [] [] front i n s pulled of beyond numbered passed = absurd (true≢false (sym passed ∙ ap (λ o. is_passed o (n - 1)) of))
+  passed_first : (js fs : List ℕ) (runs : List Run) (front : Option ℕ) (i n : ℕ)
+      (s : IsSent settings codec sender honest i) → ArePulled settings codec sender honest js fs runs →
+      IsFrontOf sender js (last_pulled runs) front → IfSome (last_pulled runs) (λ last. last < n) →
+      IsNumber sender js i n → is_passed front (n - 1) ≡ true → s.k ≡ 0
+  passed_first js [] [] front i n s pulled of beyond numbered passed =
+      absurd (true≢false (sym passed ∙ ap (λ o. is_passed o (n - 1)) of))
   passed_first js [] (run ∷ runs) front i n s pulled of beyond numbered passed = absurd pulled
   passed_first js (f ∷ fs) [] front i n s pulled of beyond numbered passed = absurd pulled
   passed_first js (f ∷ fs) (run ∷ runs) None i n s pulled of beyond numbered passed = absurd of
@@ -109,34 +125,52 @@ module _ (are : RunsAre) (settings : Settings) (codec : Meaning) (sender : Sende
       let upto : n - 1 ≤ front = leb-true (n - 1) front passed in
       elim (before_or_behind (n - 1) run.last) [
         | inl before ↦
-            let behind : IsNumber sender js (p.numbered.to + 1) n = number_later sender js p.numbered.to run.last 1 (p.numbered.to + 1) n p.numbered.last_is refl (omega arith) in
+            let behind : IsNumber sender js (p.numbered.to + 1) n =
+                number_later sender js p.numbered.to run.last 1 (p.numbered.to + 1) n p.numbered.last_is refl
+                (omega arith) in
             let same : i ≡ p.numbered.to + 1 = one-place sender js i (p.numbered.to + 1) n numbered behind in
-            let span = one_span settings codec sender honest f p.sent p.numbered.from p.numbered.to p.is p.numbered.spans in
+            let span =
+                one_span settings codec sender honest f p.sent p.numbered.from p.numbered.to p.is p.numbered.spans in
             behind_last settings codec sender honest i f p.sent p.is (same ∙ span.1) s
         | inr after ↦
-            let e : (j : ℕ) × IsNumber sender js j (n - 1) × (slice_get sender.packets j ≡ Some Empty) = of.1 (n - 1) after upto in
-            let next : IsNumber sender js (e.0 + 1) n = number_later sender js e.0 (n - 1) 1 (e.0 + 1) n e.1 refl (omega arith) in
+            let e : (j : ℕ) × IsNumber sender js j (n - 1) × (slice_get sender.packets j ≡ Some Empty) =
+                of.1 (n - 1) after upto in
+            let next : IsNumber sender js (e.0 + 1) n =
+                number_later sender js e.0 (n - 1) 1 (e.0 + 1) n e.1 refl (omega arith) in
             after_empty settings codec sender honest e.0 i e.2 (one-place sender js (e.0 + 1) i n next numbered) s
       ]
 
   -- a frame that follows another over empty packets is the next
-  next_over_empty : (js : List ℕ) (k f : ℕ) (frame : SentFrame) (to last first : ℕ) → slice_get sender.frames f ≡ Some frame → k < f → IsNumber sender js to last → to + 1 ≡ honest.place k + size settings codec sender honest k → IsNumber sender js (honest.place f) first → last < first
-      → ((m : ℕ) → last < m → m < first → (i : ℕ) × IsNumber sender js i m × (slice_get sender.packets i ≡ Some Empty)) → k + 1 ≡ f
-  next_over_empty js k f frame to last first is less ends end_is numbered above empty = elim (before_or_behind f (k + 1)) [
+  next_over_empty : (js : List ℕ) (k f : ℕ) (frame : SentFrame) (to last first : ℕ) →
+      slice_get sender.frames f ≡ Some frame → k < f → IsNumber sender js to last →
+      to + 1 ≡ honest.place k + size settings codec sender honest k → IsNumber sender js (honest.place f) first →
+      last < first
+      → ((m : ℕ) → last < m → m < first →
+      (i : ℕ) × IsNumber sender js i m × (slice_get sender.packets i ≡ Some Empty)) → k + 1 ≡ f
+  next_over_empty js k f frame to last first is less ends end_is numbered above empty =
+      elim (before_or_behind f (k + 1)) [
     | inl upto ↦ omega arith
     | inr between ↦
         let within : f < length sender.frames = slice_get_within sender.frames f frame is in
-        let before : honest.place k + size settings codec sender honest k ≤ honest.place (k + 1) = honest.in_order k (k + 1) (omega arith) (omega arith) in
-        let after : honest.place (k + 1) + size settings codec sender honest (k + 1) ≤ honest.place f = honest.in_order (k + 1) f between within in
+        let before : honest.place k + size settings codec sender honest k ≤ honest.place (k + 1) =
+            honest.in_order k (k + 1) (omega arith) (omega arith) in
+        let after : honest.place (k + 1) + size settings codec sender honest (k + 1) ≤ honest.place f =
+            honest.in_order (k + 1) f between within in
         let inside : k + 1 < length sender.frames = omega arith in
-        let t : Travels settings codec sender (k + 1) _ (honest.place (k + 1)) (honest.parts (k + 1)) = frame_travels settings codec sender honest (k + 1) _ (slice_get-get_or sender.frames (k + 1) frame inside) in
+        let t : Travels settings codec sender (k + 1) _ (honest.place (k + 1)) (honest.parts (k + 1)) =
+            frame_travels settings codec sender honest (k + 1) _
+            (slice_get-get_or sender.frames (k + 1) frame inside) in
         let some : 0 < size settings codec sender honest (k + 1) = t.some in
         let d : ℕ = honest.place (k + 1) - to in
-        let there : IsNumber sender js (honest.place (k + 1)) (last + d) = number_later sender js to last d (honest.place (k + 1)) (last + d) ends (omega arith) refl in
+        let there : IsNumber sender js (honest.place (k + 1)) (last + d) =
+            number_later sender js to last d (honest.place (k + 1)) (last + d) ends (omega arith) refl in
         let below : last + d < first = near_first (honest.place (k + 1)) (last + d) there (omega arith) in
-        let inside_empty : slice_get sender.packets (honest.place (k + 1)) ≡ Some Empty = at_empty (honest.place (k + 1)) (last + d) there (omega arith) below in
+        let inside_empty : slice_get sender.packets (honest.place (k + 1)) ≡ Some Empty =
+            at_empty (honest.place (k + 1)) (last + d) there (omega arith) below in
         absurd (some_holds (IsOf (k + 1)) (slice_get sender.packets (honest.place (k + 1))) Empty inside_empty
-        (((frame_spans settings codec sender honest (k + 1) _ (slice_get-get_or sender.frames (k + 1) frame inside)).exactly (honest.place (k + 1))).1 (omega arith, omega arith)))
+        (((frame_spans settings codec sender honest (k + 1) _
+        (slice_get-get_or sender.frames (k + 1) frame inside)).exactly (honest.place (k + 1))).1
+        (omega arith, omega arith)))
   ] where
     at_empty : (i m : ℕ) → IsNumber sender js i m → last < m → m < first → slice_get sender.packets i ≡ Some Empty
     at_empty i m at_i above below =
@@ -151,7 +185,7 @@ module _ (are : RunsAre) (settings : Settings) (codec : Meaning) (sender : Sende
   module _ (h : List Event) (origins : List Origin) where
     -- which numbers stood right after the end of a frame at some time
     abbrev began : ℕ → Bool
-    began = began_behind (times (snapshots settings codec h))
+    began = began_after_end (times (snapshots settings codec h))
 
     -- the packets now
     abbrev packets_now : Packets
@@ -170,51 +204,73 @@ module _ (are : RunsAre) (settings : Settings) (codec : Meaning) (sender : Sende
 
     -- the packets taken
     abbrev js : List ℕ
-    js = taken settings codec h origins
+    js = packets_taken settings codec h origins
 
-    module _ (fs : List ℕ) (holds : Holds settings codec sender honest (snapshots settings codec h) (taken settings codec h origins) fs) where
+    module _ (fs : List ℕ) (holds : Holds settings codec sender honest (snapshots settings codec h)
+        (packets_taken settings codec h origins) fs) where
       -- an available number isn't the first of all
       from_one : (n : ℕ) → is_available n packets_now ≡ true → 1 ≤ n
-      from_one n available = by_taken js (latest (snapshots settings codec h)).window.newest holds.took.here.newest (holds.took.here.keeps.from n available) where
-        by_taken : (taken : List ℕ) (o : Option ℕ) → IsNewestOf sender taken o → (i : ℕ) × Contains taken i × IsNumber sender taken i n × (greatest taken < i + WINDOW) → 1 ≤ n
+      from_one n available = by_taken js (latest (snapshots settings codec h)).window.newest holds.took.here.newest
+          (holds.took.here.keeps.from n available) where
+        by_taken : (taken : List ℕ) (o : Option ℕ) → IsNewestOf sender taken o →
+            (i : ℕ) × Contains taken i × IsNumber sender taken i n × (greatest taken < i + WINDOW) → 1 ≤ n
         by_taken [] o newest p = absurd p.2
         by_taken (j ∷ others) o newest p =
             let least : 65536 ≤ newest.0 = newest.2 in
-            let near : newest.0 < n + WINDOW = near-number sender (j ∷ others) p.0 (greatest (j ∷ others)) n newest.0 WINDOW p.2 newest.3 p.3 in
+            let near : newest.0 < n + WINDOW =
+                near-number sender (j ∷ others) p.0 (greatest (j ∷ others)) n newest.0 WINDOW p.2 newest.3 p.3 in
             omega arith
 
       -- beyond the frames pulled none but a first part stands after the end of a frame
-      first_behind : (from : ℕ) → IfSome pulled_now (λ last. last < from) → FirstBehind settings codec sender js packets_now holds.took.here.kept honest front_now began from
-      first_behind from beyond i n upto available numbered sent behind = elim (or_cases (is_passed front_now (n - 1)) (began n) behind) [
-        | inl passed ↦ passed_first js fs (latest (snapshots settings codec h)).pulled front_now i n sent holds.pulled holds.front (further pulled_now beyond) numbered passed
-        | inr stood ↦ began_first settings codec sender honest js (snapshots settings codec h) i n sent (from_one n available) holds.took.were numbered stood
+      first_behind : (from : ℕ) → IfSome pulled_now (λ last. last < from) →
+          FirstBehind settings codec sender js packets_now holds.took.here.kept honest front_now began from
+      first_behind from beyond i n upto available numbered sent behind =
+          elim (or_cases (is_passed front_now (n - 1)) (began n) behind) [
+        | inl passed ↦ passed_first js fs
+            (latest (snapshots settings codec h)).pulled front_now i n sent holds.pulled holds.front
+            (further pulled_now beyond) numbered passed
+        | inr stood ↦ began_first settings codec sender honest js (snapshots settings codec h) i n sent
+            (from_one n available) holds.took.were numbered stood
       ] where
         further : (o : Option ℕ) → IfSome o (λ last. last < from) → IfSome o (λ last. last < n)
         further None less = tt
         further (Some last) less = omega (arith, less, upto)
 
       -- a run that stands is a whole frame, beyond the last frame pulled
-      stood : (run : Run) → Contains runs_now run → IsRunNow codec (snapshots settings codec h) run × (stands pulled_now run ≡ true)
+      stood : (run : Run) → Contains runs_now run →
+          IsRunNow codec (snapshots settings codec h) run × (stands pulled_now run ≡ true)
       stood run there = standing-from are codec (snapshots settings codec h) (standing_is settings codec h) run there
 
       -- a run that stands is a frame of the sender
       pub frame_is : (run : Run) → Contains runs_now run → (f : ℕ) × IsFrameRun sender js f run
-      frame_is run there = run-frame settings codec sender js packets_now holds.took.here.kept honest front_now began run (first_behind run.first (stands-beyond pulled_now run (stood run there).1)) (stood run there).0
+      frame_is run there = run-frame settings codec sender js packets_now holds.took.here.kept honest front_now began
+          run (first_behind run.first (stands-beyond pulled_now run (stood run there).1)) (stood run there).0
 
       -- if it is evident that a frame begins with its first packet, its first part is a start
-      evident_begins : (f first : ℕ) (frame : SentFrame) → slice_get sender.frames f ≡ Some frame → IsNumber sender js (honest.place f) first → 1 ≤ first → BeginsEvidently settings codec sender h (honest.place f) first
-          → (c : Carried) → IsPart settings codec sender f frame (size settings codec sender honest f) 0 (honest.place f) c → begins c.part.start (is_behind front_now began first) ≡ true
-      evident_begins f first frame is numbered from evident c part = first_begins settings codec sender honest f (size settings codec sender honest f) (honest.place f) frame c (is_behind front_now began first) part (elim evident [
-        | inl says ↦ inl (says_yes settings codec sender honest f (size settings codec sender honest f) 0 (honest.place f) frame c part says)
+      evident_begins : (f first : ℕ) (frame : SentFrame) → slice_get sender.frames f ≡ Some frame →
+          IsNumber sender js (honest.place f) first → 1 ≤ first →
+          BeginsEvidently settings codec sender h (honest.place f) first
+          → (c : CarriedPart) → IsPart settings codec sender f frame (size settings codec sender honest f) 0
+          (honest.place f) c → begins c.part.start (is_behind front_now began first) ≡ true
+      evident_begins f first frame is numbered from evident c part =
+          first_begins settings codec sender honest f (size settings codec sender honest f) (honest.place f) frame c
+          (is_behind front_now began first) part (elim evident [
+        | inl says ↦ inl (says_yes settings codec sender honest f (size settings codec sender honest f) 0
+            (honest.place f) frame c part says)
         | inr other ↦ inr (elim other [
           | inl passed ↦ or_left (is_passed front_now (first - 1)) (began first) passed
-          | inr beside ↦ or_right (is_passed front_now (first - 1)) (began first) (were_behind settings codec sender honest js f frame first (snapshots settings codec h) is from holds.took.were numbered beside)
+          | inr beside ↦ or_right (is_passed front_now (first - 1)) (began first)
+              (were_behind settings codec sender honest js f frame first
+              (snapshots settings codec h) is from holds.took.were numbered beside)
         ])
       ])
 
       -- its first number is that of the frame's first packet
-      pub first_place : (f : ℕ) (run : Run) (is : IsFrameRun sender js f run) → IsNumber sender js (honest.place f) run.first
-      first_place f run is = subst (λ (i : ℕ). IsNumber sender js i run.first) (one_span settings codec sender honest f is.frame is.numbered.from is.numbered.to is.sent is.numbered.spans).0 is.numbered.first_is
+      pub first_place : (f : ℕ) (run : Run) (is : IsFrameRun sender js f run) →
+          IsNumber sender js (honest.place f) run.first
+      first_place f run is = subst (λ (i : ℕ). IsNumber sender js i run.first)
+          (one_span settings codec sender honest f is.frame is.numbered.from is.numbered.to is.sent
+          is.numbered.spans).0 is.numbered.first_is
 
       -- a frame that stands complete, as a run that stands
       pub record IsRunOf (f first : ℕ) : Type 0 where
@@ -228,26 +284,41 @@ module _ (are : RunsAre) (settings : Settings) (codec : Meaning) (sender : Sende
       pub complete_run : (f : ℕ) (c : StandsComplete settings codec sender h origins f) → IsRunOf f c.first
       complete_run f c =
           let pulled : List Run = (latest (snapshots settings codec h)).pulled in
-          let span = one_span settings codec sender honest f c.frame c.numbered.from c.numbered.to c.sent c.numbered.spans in
-          let first : IsNumber sender js (honest.place f) c.first = subst (λ (i : ℕ). IsNumber sender js i c.first) span.0 c.numbered.first_is in
-          let t : Travels settings codec sender f c.frame (honest.place f) (honest.parts f) = frame_travels settings codec sender honest f c.frame c.sent in
+          let span =
+              one_span settings codec sender honest f c.frame c.numbered.from c.numbered.to c.sent c.numbered.spans in
+          let first : IsNumber sender js (honest.place f) c.first =
+              subst (λ (i : ℕ). IsNumber sender js i c.first) span.0 c.numbered.first_is in
+          let t : Travels settings codec sender f c.frame (honest.place f) (honest.parts f) =
+              frame_travels settings codec sender honest f c.frame c.sent in
           let some : 0 < length (honest.parts f) = t.some in
           let to_is : c.numbered.to + 1 ≡ honest.place f + length (honest.parts f) = span.1 in
-          let last : IsNumber sender js c.numbered.to (c.first + length (honest.parts f) - 1) = number_later sender js (honest.place f) c.first (length (honest.parts f) - 1) c.numbered.to (c.first + length (honest.parts f) - 1) first (omega arith) (omega arith) in
-          let last_is : c.last ≡ c.first + length (honest.parts f) - 1 = one-number sender js c.numbered.to c.last (c.first + length (honest.parts f) - 1) c.numbered.last_is last in
-          let run : Run = frame_run settings codec sender js packets_now holds.took.here.kept c.frame c.first (honest.parts f) in
-          let beyond : stands pulled_now run ≡ true = stands_from pulled_now run (beyond-last pulled c.first c.beyond) in
+          let last : IsNumber sender js c.numbered.to (c.first + length (honest.parts f) - 1) =
+              number_later sender js (honest.place f) c.first (length (honest.parts f) - 1) c.numbered.to
+              (c.first + length (honest.parts f) - 1) first (omega arith) (omega arith) in
+          let last_is : c.last ≡ c.first + length (honest.parts f) - 1 =
+              one-number sender js c.numbered.to c.last
+              (c.first + length (honest.parts f) - 1) c.numbered.last_is last in
+          let run : Run =
+              frame_run settings codec sender js packets_now holds.took.here.kept c.frame c.first (honest.parts f) in
+          let beyond : stands pulled_now run ≡ true =
+              stands_from pulled_now run (beyond-last pulled c.first c.beyond) in
           record {
             run = run;
-            there = standing-to are codec (snapshots settings codec h) (standing_is settings codec h) run (frame-run settings codec sender js packets_now holds.took.here.kept honest front_now began f c.frame c.first c.sent
+            there = standing-to are codec (snapshots settings codec h) (standing_is settings codec h) run
+                (frame-run settings codec sender js packets_now holds.took.here.kept honest front_now began f c.frame
+                c.first c.sent
                 (first_behind c.first (beyond-last pulled c.first c.beyond))
-                (evident_begins f c.first c.frame c.sent first (from_one c.first (c.available c.first (omega arith) (omega arith))) (subst (λ (i : ℕ). BeginsEvidently settings codec sender h i c.first) span.0 c.begins))
+                (evident_begins f c.first c.frame c.sent first
+                (from_one c.first (c.available c.first (omega arith) (omega arith)))
+                (subst (λ (i : ℕ). BeginsEvidently settings codec sender h i c.first) span.0 c.begins))
                 first (λ n from upto. c.available n from (omega arith))) beyond;
             beyond = beyond;
             is_frame = record {
               frame = c.frame;
               sent = c.sent;
-              numbered = record { from = c.numbered.from; to = c.numbered.to; spans = c.numbered.spans; first_is = c.numbered.first_is; last_is = last };
+              numbered = record {
+                  from = c.numbered.from; to = c.numbered.to; spans = c.numbered.spans; first_is =
+                  c.numbered.first_is; last_is = last };
               ts = refl;
               key = refl;
               bytes = refl;
@@ -257,35 +328,50 @@ module _ (are : RunsAre) (settings : Settings) (codec : Meaning) (sender : Sende
           }
 
       -- a number up to the last of a frame that was pulled is passed
-      pulled-passed : (run : Run) (n : ℕ) → Contains (latest (snapshots settings codec h)).pulled run → n ≤ run.last → is_passed front_now n ≡ true
+      pulled-passed : (run : Run) (n : ℕ) → Contains (latest (snapshots settings codec h)).pulled run → n ≤ run.last →
+          is_passed front_now n ≡ true
       pulled-passed run n there upto = by_last pulled_now front_now refl holds.front where
-        by_last : (last front : Option ℕ) → pulled_now ≡ last → IsFrontOf sender js last front → is_passed front n ≡ true
-        by_last None front is of = absurd (true≢false (sym (last_there (latest (snapshots settings codec h)).pulled run there) ∙ ap is_some is))
+        by_last : (last front : Option ℕ) → pulled_now ≡ last → IsFrontOf sender js last front →
+            is_passed front n ≡ true
+        by_last None front is of =
+            absurd (true≢false (sym (last_there (latest (snapshots settings codec h)).pulled run there)
+            ∙ ap is_some is))
         by_last (Some last) None is of = absurd of
         by_last (Some last) (Some front) is of =
-            let all : All (λ r. r.last < last + 1) (latest (snapshots settings codec h)).pulled = beyond-every are settings codec h (last + 1) (subst (λ (o : Option ℕ). IfSome o (λ l. l < last + 1)) (sym is) (omega arith)) in
-            let less : run.last < last + 1 = of_all (λ r. r.last < last + 1) (latest (snapshots settings codec h)).pulled run all there in
+            let all : All (λ r. r.last < last + 1) (latest (snapshots settings codec h)).pulled =
+                beyond-every are settings codec h (last + 1)
+                (subst (λ (o : Option ℕ). IfSome o (λ l. l < last + 1)) (sym is) (omega arith)) in
+            let less : run.last < last + 1 =
+                of_all (λ r. r.last < last + 1) (latest (snapshots settings codec h)).pulled run all there in
             let more : last ≤ front = of.0 in
             le-leb n front (omega arith)
 
       -- a frame that follows a rule reference has the number before it passed
-      follows_passed : (g first : ℕ) (follows : Follows settings codec sender h origins g first) → follows.run.last < first → is_passed front_now (first - 1) ≡ true
+      follows_passed : (g first : ℕ) (follows : Follows settings codec sender h origins g first) →
+          follows.run.last < first → is_passed front_now (first - 1) ≡ true
       follows_passed g first follows less = elim (before_or_behind (first - 1) follows.run.last) [
         | inl upto ↦ pulled-passed follows.run (first - 1) follows.pulled upto
         | inr after ↦ follows.evident (first - 1) after (omega arith)
       ]
 
       -- the run of a ready frame is deliverable
-      ready_deliverable : (f : ℕ) (ready : Ready settings codec sender h origins f) (r : IsRunOf f ready.complete.first) → is_deliverable pulled_now front_now r.run ≡ true
+      ready_deliverable : (f : ℕ) (ready : Ready settings codec sender h origins f)
+          (r : IsRunOf f ready.complete.first) → is_deliverable pulled_now front_now r.run ≡ true
       ready_deliverable f ready r = by_key f ready r (r.is_frame.frame.key) refl where
-        by_follow : (f g first : ℕ) (r : IsRunOf f first) → ((run : Run) → Contains (latest (snapshots settings codec h)).pulled run → run.last < first) → Follows settings codec sender h origins g first → is_deliverable pulled_now front_now r.run ≡ true
+        by_follow : (f g first : ℕ) (r : IsRunOf f first) →
+            ((run : Run) → Contains (latest (snapshots settings codec h)).pulled run → run.last < first) →
+            Follows settings codec sender h origins g first → is_deliverable pulled_now front_now r.run ≡ true
         by_follow f g first r beyond follows =
-            deliverable_next pulled_now front_now r.run r.beyond r.is_frame.layers (last_there (latest (snapshots settings codec h)).pulled follows.run follows.pulled)
-            (subst (λ (n : ℕ). is_passed front_now (n - 1) ≡ true) (sym r.first_is) (follows_passed g first follows (beyond follows.run follows.pulled)))
+            deliverable_next pulled_now front_now r.run r.beyond r.is_frame.layers
+            (last_there (latest (snapshots settings codec h)).pulled follows.run follows.pulled)
+            (subst (λ (n : ℕ). is_passed front_now (n - 1) ≡ true) (sym r.first_is)
+            (follows_passed g first follows (beyond follows.run follows.pulled)))
 
-        by_key : (f : ℕ) (ready : Ready settings codec sender h origins f) (r : IsRunOf f ready.complete.first) (b : Bool) → r.is_frame.frame.key ≡ b → is_deliverable pulled_now front_now r.run ≡ true
+        by_key : (f : ℕ) (ready : Ready settings codec sender h origins f) (r : IsRunOf f ready.complete.first)
+            (b : Bool) → r.is_frame.frame.key ≡ b → is_deliverable pulled_now front_now r.run ≡ true
         by_key f ready r true is = deliverable_key pulled_now front_now r.run r.beyond (r.is_frame.key ∙ is)
-        by_key zero ready r false is = absurd (true≢false (sym (first_is_key r.is_frame.frame r.is_frame.sent) ∙ is)) where
+        by_key zero ready r false is =
+            absurd (true≢false (sym (first_is_key r.is_frame.frame r.is_frame.sent) ∙ is)) where
           first_is_key : (frame : SentFrame) → slice_get sender.frames 0 ≡ Some frame → frame.key ≡ true
           first_is_key frame there = here (slice_get sender.frames 0) there honest.from_key where
             here : (o : Option SentFrame) → o ≡ Some frame → IfSome o (λ x. x.key ≡ true) → frame.key ≡ true
@@ -294,21 +380,27 @@ module _ (are : RunsAre) (settings : Settings) (codec : Meaning) (sender : Sende
               same_frame : (x : SentFrame) → ◌≡◌ {A = Option SentFrame} (Some x) (Some frame) → x ≡ frame
               same_frame x e = same_Some x frame e
         by_key (suc g) ready r false is =
-            by_follow (suc g) g ready.complete.first r (λ run there. of_all (λ x. x.last < ready.complete.first) (latest (snapshots settings codec h)).pulled run ready.complete.beyond there)
-            (ready.follows g (some_from (λ frame. (frame.key ≡ false) × (g + 1 ≡ suc g)) (slice_get sender.frames (suc g)) r.is_frame.frame r.is_frame.sent (is, omega arith)))
+            by_follow (suc g) g ready.complete.first r
+            (λ run there. of_all (λ x. x.last < ready.complete.first)
+            (latest (snapshots settings codec h)).pulled run ready.complete.beyond there)
+            (ready.follows g (some_from (λ frame. (frame.key ≡ false) × (g + 1 ≡ suc g))
+            (slice_get sender.frames (suc g)) r.is_frame.frame r.is_frame.sent (is, omega arith)))
 
       -- if no run is deliverable, no frame is ready
-      pub none_ready : answer pulled_now front_now runs_now ≡ None → (f : ℕ) → Ready settings codec sender h origins f → ⊥
+      pub none_ready : answer pulled_now front_now runs_now ≡ None → (f : ℕ) →
+          Ready settings codec sender h origins f → ⊥
       none_ready none f ready =
           let r : IsRunOf f ready.complete.first = complete_run f ready.complete in
-          both_ways (is_deliverable pulled_now front_now r.run) (answer-none pulled_now front_now runs_now none r.run r.there) (ready_deliverable f ready r)
+          both_ways (is_deliverable pulled_now front_now r.run)
+          (answer-none pulled_now front_now runs_now none r.run r.there) (ready_deliverable f ready r)
 
       -- the last frame pulled is a rule reference's
       pub record IsLastPulled (g first : ℕ) : Type 0 where
         pub among : Contains fs g
         pub follows : Follows settings codec sender h origins g first
 
-      module _ (run : Run) (is : answer pulled_now front_now runs_now ≡ Some run) (f : ℕ) (is_frame : IsFrameRun sender js f run) where
+      module _ (run : Run) (is : answer pulled_now front_now runs_now ≡ Some run) (f : ℕ)
+          (is_frame : IsFrameRun sender js f run) where
         -- the run that a pull answers is deliverable, and stands
         pub answer_deliverable : is_deliverable pulled_now front_now run ≡ true
         answer_deliverable = (answer-given pulled_now front_now runs_now run is).1
@@ -328,28 +420,43 @@ module _ (are : RunsAre) (settings : Settings) (codec : Meaning) (sender : Sende
 
         -- the last frame pulled is its rule reference, and it follows it
         last_follows : (g : ℕ) → IsRuleReference sender f g → IsLastPulled g run.first
-        last_follows g reference = by_runs fs (latest (snapshots settings codec h)).pulled front_now holds.pulled holds.front refl refl refl where
+        last_follows g reference =
+            by_runs fs (latest (snapshots settings codec h)).pulled front_now holds.pulled holds.front refl refl
+            refl where
           says : (is_frame.frame.key ≡ false) × (g + 1 ≡ f)
-          says = some_holds (λ frame. (frame.key ≡ false) × (g + 1 ≡ f)) (slice_get sender.frames f) is_frame.frame is_frame.sent reference
+          says = some_holds (λ frame. (frame.key ≡ false) × (g + 1 ≡ f))
+              (slice_get sender.frames f) is_frame.frame is_frame.sent reference
 
           evident : (is_some pulled_now ≡ true) × (is_passed front_now (run.first - 1) ≡ true)
           evident = next_evident pulled_now front_now run answer_deliverable (is_frame.key ∙ says.0)
 
-          by_runs : (places : List ℕ) (runs : List Run) (front : Option ℕ) → ArePulled settings codec sender honest js places runs → IsFrontOf sender js (last_pulled runs) front → front_now ≡ front → (latest (snapshots settings codec h)).pulled ≡ runs → fs ≡ places → IsLastPulled g run.first
-          by_runs [] [] front p of same there those = absurd (true≢false (sym evident.0 ∙ ap (λ rs. is_some (last_pulled rs)) there))
+          by_runs : (places : List ℕ) (runs : List Run) (front : Option ℕ) →
+              ArePulled settings codec sender honest js places runs → IsFrontOf sender js (last_pulled runs) front →
+              front_now ≡ front → (latest (snapshots settings codec h)).pulled ≡ runs → fs ≡ places →
+              IsLastPulled g run.first
+          by_runs [] [] front p of same there those =
+              absurd (true≢false (sym evident.0 ∙ ap (λ rs. is_some (last_pulled rs)) there))
           by_runs [] (old ∷ runs) front p of same there those = absurd p
           by_runs (k ∷ ks) [] front p of same there those = absurd p
           by_runs (k ∷ ks) (old ∷ runs) None p of same there those = absurd of
           by_runs (k ∷ ks) (old ∷ runs) (Some front) p of same there those =
-              let beyond : old.last < run.first = subst (λ rs. IfSome (last_pulled rs) (λ last. last < run.first)) there (stands-beyond pulled_now run answer_stands) in
-              let passed : run.first - 1 ≤ front = leb-true (run.first - 1) front (sym (ap (λ o. is_passed o (run.first - 1)) same) ∙ evident.1) in
-              let less : k < f = frame_after settings codec sender honest js k f p.0.sent is_frame.frame old.first old.last run.first p.0.is p.0.numbered is_frame.sent (first_place f run is_frame) beyond in
-              let span = one_span settings codec sender honest k p.0.sent p.0.numbered.from p.0.numbered.to p.0.is p.0.numbered.spans in
-              let k_is : k + 1 ≡ f = next_over_empty js k f is_frame.frame p.0.numbered.to old.last run.first is_frame.sent less p.0.numbered.last_is span.1 (first_place f run is_frame) beyond (λ m above below. of.1 m above (omega arith)) in
+              let beyond : old.last < run.first =
+                  subst (λ rs. IfSome (last_pulled rs) (λ last. last < run.first)) there
+                  (stands-beyond pulled_now run answer_stands) in
+              let passed : run.first - 1 ≤ front =
+                  leb-true (run.first - 1) front (sym (ap (λ o. is_passed o (run.first - 1)) same) ∙ evident.1) in
+              let less : k < f = frame_after settings codec sender honest js k f p.0.sent is_frame.frame old.first
+                  old.last run.first p.0.is p.0.numbered is_frame.sent (first_place f run is_frame) beyond in
+              let span = one_span settings codec sender honest k p.0.sent p.0.numbered.from p.0.numbered.to p.0.is
+                  p.0.numbered.spans in
+              let k_is : k + 1 ≡ f = next_over_empty js k f is_frame.frame p.0.numbered.to old.last run.first
+                  is_frame.sent less p.0.numbered.last_is span.1 (first_place f run is_frame) beyond
+                  (λ m above below. of.1 m above (omega arith)) in
               let g_is : g + 1 ≡ f = says.1 in
               let same_place : k ≡ g = omega arith in
               record {
-                among = subst (λ xs. Contains xs g) (sym those) (subst (λ (x : ℕ). Contains (k ∷ ks) x) same_place (Contains-head k ks));
+                among = subst (λ xs. Contains xs g) (sym those)
+                    (subst (λ (x : ℕ). Contains (k ∷ ks) x) same_place (Contains-head k ks));
                 follows = record {
                   run = old;
                   pulled = subst (λ xs. Contains xs old) (sym there) (Contains-head old runs);
@@ -370,30 +477,42 @@ module _ (are : RunsAre) (settings : Settings) (codec : Meaning) (sender : Sende
           by_way (k ∷ ks) leads = holds.closed k g (reference_last k leads.0).among (ks, leads.1)
 
         -- and so were its references
-        pub answer_references : IfSome (slice_get sender.frames f) (λ frame. All (λ g. Contains fs g) frame.references)
+        pub answer_references : IfSome (slice_get sender.frames f)
+            (λ frame. All (λ g. Contains fs g) frame.references)
         answer_references = by_frame (slice_get sender.frames f) (honest.references f) where
-          by_frame : (o : Option SentFrame) → IfSome o (λ frame. All (λ g. InChain sender f g) frame.references) → IfSome o (λ frame. All (λ g. Contains fs g) frame.references)
+          by_frame : (o : Option SentFrame) → IfSome o (λ frame. All (λ g. InChain sender f g) frame.references) →
+              IfSome o (λ frame. All (λ g. Contains fs g) frame.references)
           by_frame None each = tt
-          by_frame (Some frame) each = all_more (λ g. InChain sender f g) (λ g. Contains fs g) frame.references answer_chain each
+          by_frame (Some frame) each =
+              all_more (λ g. InChain sender f g) (λ g. Contains fs g) frame.references answer_chain each
 
         -- a start that the packet before decides
         behind_evident : (i n : ℕ) → is_behind front_now began n ≡ true → BeginsEvidently settings codec sender h i n
         behind_evident i n behind = elim (or_cases (is_passed front_now (n - 1)) (began n) behind) [
           | inl passed ↦ inr (inl passed)
           | inr stood_behind ↦
-              let t : (packets : Packets) × Contains (times (snapshots settings codec h)) packets × (stands_behind n packets ≡ true) = list_any-from (stands_behind n) (times (snapshots settings codec h)) stood_behind in
-              let both : (is_available n t.0 ≡ true) × (option_map_or ends_frame (at (n - 1) t.0) false ≡ true) = and_parts _ _ t.2 in
+              let t : (packets : Packets) × Contains (times (snapshots settings codec h)) packets
+                  × (stands_after_end n packets ≡ true) =
+                  list_any-from (stands_after_end n) (times (snapshots settings codec h)) stood_behind in
+              let both : (is_available n t.0 ≡ true) × (option_map_or ends_frame (at (n - 1) t.0) false ≡ true) =
+                  and_parts _ _ t.2 in
               inr (inr (t.0, t.1, both.0, ap is_some (there_tested ends_frame (at (n - 1) t.0) both.1).1))
         ]
 
         -- the packet of a piece that is a start begins a frame evidently
-        piece_evident : (i n : ℕ) (p : Piece) → IsNumber sender js i n → IsPiece codec packets_now n p → is_start front_now began p ≡ true → BeginsEvidently settings codec sender h i n
+        piece_evident : (i n : ℕ) (p : Piece) → IsNumber sender js i n → IsPiece codec packets_now n p →
+            is_start front_now began p ≡ true → BeginsEvidently settings codec sender h i n
         piece_evident i n p numbered piece start = by_start p.part.start refl where
-          says : (packet : SentPacket) → at n packets_now ≡ Some (brought_by packet) → p.part.start ≡ Yes → SaysStart codec packet
+          says : (packet : SentPacket) → at n packets_now ≡ Some (content_sent packet) → p.part.start ≡ Yes →
+              SaysStart codec packet
           says (Media g k text) there start_is =
-              let same : piece.text ≡ text = ap media_text (same_Some (contents.Media piece.text) (contents.Media text) (sym piece.media ∙ there)) in
+              let same : piece.text ≡ text =
+                  ap media_text (same_Some (contents.Media piece.text) (contents.Media text)
+                  (sym piece.media ∙ there)) in
               (p.packet, p.part, sym (ap read same) ∙ piece.reads, piece.part_reads, start_is)
-          says Empty there start_is = absurd (no_text piece.text (same_Some (contents.Media piece.text) contents.Empty (sym piece.media ∙ there))) where
+          says Empty there start_is =
+              absurd (no_text piece.text
+              (same_Some (contents.Media piece.text) contents.Empty (sym piece.media ∙ there))) where
             no_text : (text : List ℕ) → contents.Media text ≡ contents.Empty → ⊥
             no_text text e = absurd (cc)
 
@@ -401,27 +520,39 @@ module _ (are : RunsAre) (settings : Settings) (codec : Meaning) (sender : Sende
           sent_says start_is =
               let packets : Packets = packets_now in
               let k = kept-there sender js n packets holds.took.here.kept (ap is_some piece.media) in
-              let q : (packet : SentPacket) × (slice_get sender.packets k.0 ≡ Some packet) × (at n packets ≡ Some (brought_by packet)) = some_there (λ packet. at n packets ≡ Some (brought_by packet)) (slice_get sender.packets k.0) k.2 in
-              subst (λ (x : ℕ). IsSomeAnd (slice_get sender.packets x) (SaysStart codec)) (one-place sender js k.0 i n k.1 numbered)
+              let q : (packet : SentPacket) × (slice_get sender.packets k.0 ≡ Some packet)
+                  × (at n packets ≡ Some (content_sent packet)) =
+                  some_there (λ packet. at n packets ≡ Some (content_sent packet))
+                  (slice_get sender.packets k.0) k.2 in
+              subst (λ (x : ℕ). IsSomeAnd (slice_get sender.packets x) (SaysStart codec))
+              (one-place sender js k.0 i n k.1 numbered)
               (some_from (SaysStart codec) (slice_get sender.packets k.0) q.0 q.1 (says q.0 q.2 start_is))
 
           by_start : (x : Start) → p.part.start ≡ x → BeginsEvidently settings codec sender h i n
           by_start Yes is = inl (sent_says is)
-          by_start No is = absurd (true≢false (sym start ∙ ap (λ x. begins x (is_behind front_now began p.number)) is))
-          by_start ByNeighbour is = behind_evident i n (ap (is_behind front_now began) (sym piece.number) ∙ sym (ap (λ x. begins x (is_behind front_now began p.number)) is) ∙ start)
+          by_start No is =
+              absurd (true≢false (sym start ∙ ap (λ x. begins x (is_behind front_now began p.number)) is))
+          by_start ByNeighbour is =
+              behind_evident i n (ap (is_behind front_now began) (sym piece.number)
+              ∙ sym (ap (λ x. begins x (is_behind front_now began p.number)) is) ∙ start)
 
         -- it is evident where it begins
         answer_begins : (i : ℕ) → IsNumber sender js i run.first → BeginsEvidently settings codec sender h i run.first
         answer_begins i numbered = by_pieces answer_run answer_run.pieces refl where
-          by_pieces : (r : IsRunNow codec (snapshots settings codec h) run) (xs : List Piece) → r.pieces ≡ xs → BeginsEvidently settings codec sender h i run.first
+          by_pieces : (r : IsRunNow codec (snapshots settings codec h) run) (xs : List Piece) → r.pieces ≡ xs →
+              BeginsEvidently settings codec sender h i run.first
           by_pieces r [] none =
               let to : run.first + length r.pieces ≡ run.last + 1 = r.to_last in
               let empty : length r.pieces ≡ 0 = ap length none in
               let within : run.first ≤ run.last = r.not_empty in
               absurd (omega arith)
           by_pieces r (p ∷ ps) those =
-              let piece : IsPiece codec packets_now run.first p = (subst (ArePieces codec packets_now run.first) those r.from_first).0 in
-              let start : AllByRecursion (λ q. (is_start front_now began q ≡ true) ↔ (q.number ≡ run.first)) (p ∷ ps) = subst (AllByRecursion (λ q. (is_start front_now began q ≡ true) ↔ (q.number ≡ run.first))) those (recursion_from_All _ r.pieces r.start) in
+              let piece : IsPiece codec packets_now run.first p =
+                  (subst (ArePieces codec packets_now run.first) those r.from_first).0 in
+              let start : AllByRecursion (λ q. (is_start front_now began q ≡ true) ↔ (q.number ≡ run.first))
+                  (p ∷ ps) = subst (AllByRecursion
+                  (λ q. (is_start front_now began q ≡ true) ↔ (q.number ≡ run.first))) those
+                  (recursion_from_All _ r.pieces r.start) in
               piece_evident i run.first p numbered piece (start.0.1 piece.number)
 
         -- it is ready
@@ -444,9 +575,12 @@ module _ (are : RunsAre) (settings : Settings) (codec : Meaning) (sender : Sende
         answer_first : (g : ℕ) → Ready settings codec sender h origins g → f ≤ g
         answer_first g ready =
             let r : IsRunOf g ready.complete.first = complete_run g ready.complete in
-            let upto : run.first ≤ r.run.first = answer-least pulled_now front_now runs_now run r.run is r.there (ready_deliverable g ready r) in
-            frame_upto settings codec sender honest f g r.is_frame.frame r.is_frame.sent (slice_get_within sender.frames f is_frame.frame is_frame.sent)
-            (IsNumber-upto sender js (honest.place f) (honest.place g) run.first r.run.first (first_place f run is_frame) (first_place g r.run r.is_frame) upto)
+            let upto : run.first ≤ r.run.first =
+                answer-least pulled_now front_now runs_now run r.run is r.there (ready_deliverable g ready r) in
+            frame_upto settings codec sender honest f g r.is_frame.frame r.is_frame.sent
+            (slice_get_within sender.frames f is_frame.frame is_frame.sent)
+            (IsNumber-upto sender js (honest.place f) (honest.place g) run.first r.run.first
+            (first_place f run is_frame) (first_place g r.run r.is_frame) upto)
 
         -- it is the least ready frame
         pub answer_least : IsLeastReady settings codec sender h origins (frame_of run) f
@@ -461,11 +595,14 @@ module _ (are : RunsAre) (settings : Settings) (codec : Meaning) (sender : Sende
 
         -- it is the sender's frame of this place
         pub answer_sent : IsSomeAnd (slice_get sender.frames f) (λ sent. IsSentFrame sent (frame_of run))
-        answer_sent = subst (λ (o : Option SentFrame). IsSomeAnd o (λ sent. IsSentFrame sent (frame_of run))) (sym is_frame.sent) (record { ts = is_frame.ts; key = is_frame.key; bytes = is_frame.bytes })
+        answer_sent = subst (λ (o : Option SentFrame). IsSomeAnd o (λ sent. IsSentFrame sent (frame_of run)))
+            (sym is_frame.sent) (record { ts = is_frame.ts; key = is_frame.key; bytes = is_frame.bytes })
 
         -- it comes after those that were pulled
         pub answer_later : bound_of settings codec sender honest fs ≤ f
-        answer_later = bound_upto settings codec sender honest js fs (latest (snapshots settings codec h)).pulled f is_frame.frame run holds.pulled is_frame.sent (first_place f run is_frame) answer_stands
+        answer_later = bound_upto settings codec sender honest js fs
+            (latest (snapshots settings codec h)).pulled f is_frame.frame run holds.pulled is_frame.sent
+            (first_place f run is_frame) answer_stands
 
         -- it is then the last frame pulled
         pub answer_pulled : IsPulled settings codec sender honest js f run
@@ -473,8 +610,11 @@ module _ (are : RunsAre) (settings : Settings) (codec : Meaning) (sender : Sende
 
         -- the first frame pulled is a keyframe
         pub answer_key : fs ≡ [] → run.key ≡ true
-        answer_key none = first_key front_now run (subst (λ (o : Option ℕ). is_deliverable o front_now run ≡ true) (no_last fs (latest (snapshots settings codec h)).pulled holds.pulled none) answer_deliverable) where
-          no_last : (places : List ℕ) (runs : List Run) → ArePulled settings codec sender honest js places runs → places ≡ [] → last_pulled runs ≡ None
+        answer_key none = first_key front_now run
+            (subst (λ (o : Option ℕ). is_deliverable o front_now run ≡ true)
+            (no_last fs (latest (snapshots settings codec h)).pulled holds.pulled none) answer_deliverable) where
+          no_last : (places : List ℕ) (runs : List Run) → ArePulled settings codec sender honest js places runs →
+              places ≡ [] → last_pulled runs ≡ None
           no_last [] [] p e = refl
           no_last [] (old ∷ runs) p e = absurd p
           no_last (k ∷ ks) runs p e = absurd (cc)

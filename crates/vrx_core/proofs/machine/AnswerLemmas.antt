@@ -43,45 +43,67 @@ none_left (r ∷ rs) none other c = none-some (lesser r (least rs)) (sym none)
 -- the least of some runs begins no later than each of them
 least-upto : (rs : List Run) (run other : Run) → least rs ≡ Some run → Contains rs other → run.first ≤ other.first
 least-upto [] run other is c = absurd (none-some run is)
-least-upto (r ∷ rs) run other is c = subst (λ x. x.first ≤ other.first) (same_Some (lesser r (least rs)) run is) (either (λ q some d. least-upto rs q other some d) (Contains-either r rs other c)) where
-  among : ((q : Run) → least rs ≡ Some q → Contains rs other → q.first ≤ other.first) → (l : Option Run) → least rs ≡ l → Contains rs other → (lesser r l).first ≤ other.first
+least-upto (r ∷ rs) run other is c =
+    subst (λ x. x.first ≤ other.first) (same_Some (lesser r (least rs)) run is)
+    (either (λ q some d. least-upto rs q other some d) (Contains-either r rs other c)) where
+  among : ((q : Run) → least rs ≡ Some q → Contains rs other → q.first ≤ other.first) → (l : Option Run) →
+      least rs ≡ l → Contains rs other → (lesser r l).first ≤ other.first
   among each None none d = absurd (none_left rs none other d)
-  among each (Some q) some d = let first : (lesser r (Some q)).first ≤ q.first = lesser-there r q in let rest : q.first ≤ other.first = each q some d in omega arith
+  among each (Some q) some d = let first : (lesser r (Some q)).first ≤ q.first =
+      lesser-there r q in let rest : q.first ≤ other.first = each q some d in omega arith
 
-  either : ((q : Run) → least rs ≡ Some q → Contains rs other → q.first ≤ other.first) → (r ≡ other) ⊎ Contains rs other → (lesser r (least rs)).first ≤ other.first
+  either : ((q : Run) → least rs ≡ Some q → Contains rs other → q.first ≤ other.first) →
+      (r ≡ other) ⊎ Contains rs other → (lesser r (least rs)).first ≤ other.first
   either each (inl same) = subst (λ x. (lesser r (least rs)).first ≤ x.first) same (lesser-here r (least rs))
   either each (inr later) = among each (least rs) refl later
 
 -- the answer is one of the runs, and is deliverable
-pub answer-given : (pulled front : Option ℕ) (rs : List Run) (run : Run) → answer pulled front rs ≡ Some run → Contains rs run × (is_deliverable pulled front run ≡ true)
-answer-given pulled front rs run is = filter-from (is_deliverable pulled front) rs run (least-from (filter (is_deliverable pulled front) rs) run is)
+pub answer-given : (pulled front : Option ℕ) (rs : List Run) (run : Run) → answer pulled front rs ≡ Some run →
+    Contains rs run × (is_deliverable pulled front run ≡ true)
+answer-given pulled front rs run is =
+    filter-from (is_deliverable pulled front) rs run (least-from (filter (is_deliverable pulled front) rs) run is)
 
 -- the answer is one of the runs, and stands
-pub answer-from : (pulled front : Option ℕ) (rs : List Run) (run : Run) → answer pulled front rs ≡ Some run → Contains rs run × (stands pulled run ≡ true)
+pub answer-from : (pulled front : Option ℕ) (rs : List Run) (run : Run) → answer pulled front rs ≡ Some run →
+    Contains rs run × (stands pulled run ≡ true)
 answer-from pulled front rs run is =
     let there : Contains rs run × (is_deliverable pulled front run ≡ true) = answer-given pulled front rs run is in
     (there.0, (and_parts (stands pulled run) _ there.1).0)
 
 -- the answer begins no later than each deliverable run
-pub answer-least : (pulled front : Option ℕ) (rs : List Run) (run other : Run) → answer pulled front rs ≡ Some run → Contains rs other → is_deliverable pulled front other ≡ true → run.first ≤ other.first
-answer-least pulled front rs run other is there deliverable = least-upto (filter (is_deliverable pulled front) rs) run other is (filter-to (is_deliverable pulled front) rs other there deliverable)
+pub answer-least : (pulled front : Option ℕ) (rs : List Run) (run other : Run) → answer pulled front rs ≡ Some run →
+    Contains rs other → is_deliverable pulled front other ≡ true → run.first ≤ other.first
+answer-least pulled front rs run other is there deliverable =
+    least-upto (filter (is_deliverable pulled front) rs) run other is
+    (filter-to (is_deliverable pulled front) rs other there deliverable)
 
 -- if there is no answer, no run is deliverable
-pub answer-none : (pulled front : Option ℕ) (rs : List Run) → answer pulled front rs ≡ None → NoneDeliverable pulled front rs
-answer-none pulled front rs none other there = false_from_ne_true (is_deliverable pulled front other) (λ deliverable. none_left (filter (is_deliverable pulled front) rs) none other (filter-to (is_deliverable pulled front) rs other there deliverable))
+pub answer-none : (pulled front : Option ℕ) (rs : List Run) → answer pulled front rs ≡ None →
+    NoneDeliverable pulled front rs
+answer-none pulled front rs none other there =
+    false_from_ne_true (is_deliverable pulled front other)
+    (λ deliverable. none_left (filter (is_deliverable pulled front) rs) none other
+    (filter-to (is_deliverable pulled front) rs other there deliverable))
 
 -- and back
-none-answer : (pulled front : Option ℕ) (rs : List Run) → NoneDeliverable pulled front rs → answer pulled front rs ≡ None
+none-answer : (pulled front : Option ℕ) (rs : List Run) → NoneDeliverable pulled front rs →
+    answer pulled front rs ≡ None
 none-answer pulled front rs none = by_answer (answer pulled front rs) refl where
   by_answer : (o : Option Run) → answer pulled front rs ≡ o → o ≡ None
   by_answer None is = refl
-  by_answer (Some run) is = let given = answer-given pulled front rs run is in absurd (true≢false (sym given.1 ∙ none run given.0))
+  by_answer (Some run) is = let given =
+      answer-given pulled front rs run is in absurd (true≢false (sym given.1 ∙ none run given.0))
 
 -- every answer is right
 pub answers_are : AnswersHold
-answers_are pulled front rs = record { none = (answer-none pulled front rs, none-answer pulled front rs); some = by_answer (answer pulled front rs) refl } where
+answers_are pulled front rs =
+    record {
+    none = (answer-none pulled front rs, none-answer pulled front rs); some =
+    by_answer (answer pulled front rs) refl } where
   by_answer : (o : Option Run) → answer pulled front rs ≡ o → IfSome o (λ run. IsLeastDeliverable pulled front rs run)
   by_answer None is = tt
   by_answer (Some run) is =
       let given : Contains rs run × (is_deliverable pulled front run ≡ true) = answer-given pulled front rs run is in
-      record { among = given.0; deliverable = given.1; least = λ other there deliverable. answer-least pulled front rs run other is there deliverable }
+      record {
+          among = given.0; deliverable = given.1; least =
+          λ other there deliverable. answer-least pulled front rs run other is there deliverable }

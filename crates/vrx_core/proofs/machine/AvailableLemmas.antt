@@ -9,7 +9,7 @@ use Rattle.std.proofs.lemmas.Option.{none-some, same_Some}
 use Rattle.vrx_num.specs.declared.limits.TheConstants.{WINDOW}
 use Rattle.vrx_codec.specs.Meaning.{Meaning}
 use Rattle.vrx_window.specs.Content.{Content}
-use Rattle.vrx_window.specs.Window.{Contents, at, in_window, is_too_old, newest_with, placed, placed_in}
+use Rattle.vrx_window.specs.Window.{Contents, at, in_window, is_too_old, newest_with, after_placing, entries_with}
 use Rattle.vrx_frames.specs.Run.{Packets, Run}
 use Rattle.vrx_core.specs.machine.Verdict.{verdict}
 use Rattle.vrx_core.specs.machine.Machine.{Snapshot, latest, next_run, after_datagram, after_pull, snapshots}
@@ -32,33 +32,44 @@ equal_key : (n k : ℕ) → nat_cmp n k ≡ Equal → n ≡ k
 equal_key n k h = grind (arith, common_steps)
 
 -- what stands under a number once m was placed
-pub find-placed : (newest m q : ℕ) (content : Content) (packets : Packets) → at q (placed_in newest m content packets) ≡ cond (eq_by_cmp nat_cmp q m) (Some content) (cond (in_window newest q) (at q packets) None)
-find-placed newest m q content packets =
+pub find-after_placing : (newest m q : ℕ) (content : Content) (packets : Packets) →
+    at q (entries_with newest m content packets) ≡ cond (eq_by_cmp nat_cmp q m) (Some content)
+    (cond (in_window newest q) (at q packets) None)
+find-after_placing newest m q content packets =
     find-put nat_cmp nat_cmp_total q m content (where_key nat_cmp (in_window newest) packets)
-    ∙ ap (cond (eq_by_cmp nat_cmp q m) (Some content)) (find-where_key nat_cmp (in_window newest) q (λ x same. ap (in_window newest) (sym (equal_key q x same))) packets)
+    ∙ ap (cond (eq_by_cmp nat_cmp q m) (Some content))
+    (find-where_key nat_cmp (in_window newest) q (λ x same. ap (in_window newest) (sym (equal_key q x same))) packets)
 
 -- a value after two tests
-found_after : (a b : Bool) (c content : Content) (o : Option Content) → cond a (Some c) (cond b o None) ≡ Some content → ((a ≡ true) × (c ≡ content)) ⊎ ((b ≡ true) × (o ≡ Some content))
+found_after : (a b : Bool) (c content : Content) (o : Option Content) →
+    cond a (Some c) (cond b o None) ≡ Some content → ((a ≡ true) × (c ≡ content)) ⊎ ((b ≡ true) × (o ≡ Some content))
 found_after true b c content o is = inl (refl, same_Some c content is)
 found_after false true c content o is = inr (refl, is)
 found_after false false c content o is = absurd (none-some content is)
 
 -- what stands under a number once m was placed: what was placed, or what stood there before and lies in the window
-pub placed_at : (newest m n : ℕ) (c content : Content) (packets : Packets) → at n (placed_in newest m c packets) ≡ Some content → ((n ≡ m) × (c ≡ content)) ⊎ ((in_window newest n ≡ true) × (at n packets ≡ Some content))
+pub placed_at : (newest m n : ℕ) (c content : Content) (packets : Packets) →
+    at n (entries_with newest m c packets) ≡ Some content →
+    ((n ≡ m) × (c ≡ content)) ⊎ ((in_window newest n ≡ true) × (at n packets ≡ Some content))
 placed_at newest m n c content packets is =
-    elim (found_after (eq_by_cmp nat_cmp n m) (in_window newest n) c content (at n packets) (sym (find-placed newest m n c packets) ∙ is)) [
+    elim (found_after (eq_by_cmp nat_cmp n m) (in_window newest n) c content (at n packets)
+    (sym (find-after_placing newest m n c packets) ∙ is)) [
       | inl new ↦ inl (same_key n m new.0, new.1)
       | inr old ↦ inr old
     ]
 
 -- what was placed stands under its number
-pub placed_new : (newest m : ℕ) (c : Content) (packets : Packets) → at m (placed_in newest m c packets) ≡ Some c
-placed_new newest m c packets = find-placed newest m m c packets ∙ ap (λ b. cond b (Some c) (cond (in_window newest m) (at m packets) None)) (key_same m)
+pub placed_new : (newest m : ℕ) (c : Content) (packets : Packets) → at m (entries_with newest m c packets) ≡ Some c
+placed_new newest m c packets = find-after_placing newest m m c packets
+    ∙ ap (λ b. cond b (Some c) (cond (in_window newest m) (at m packets) None)) (key_same m)
 
 -- what stood under another number of the window stands there still
-pub placed_old : (newest m n : ℕ) (c content : Content) (packets : Packets) → (n ≡ m → ⊥) → in_window newest n ≡ true → at n packets ≡ Some content → at n (placed_in newest m c packets) ≡ Some content
-placed_old newest m n c content packets apart inside there = find-placed newest m n c packets ∙ by_test (eq_by_cmp nat_cmp n m) refl where
-  by_test : (b : Bool) → eq_by_cmp nat_cmp n m ≡ b → cond b (Some c) (cond (in_window newest n) (at n packets) None) ≡ Some content
+pub placed_old : (newest m n : ℕ) (c content : Content) (packets : Packets) → (n ≡ m → ⊥) →
+    in_window newest n ≡ true → at n packets ≡ Some content → at n (entries_with newest m c packets) ≡ Some content
+placed_old newest m n c content packets apart inside there =
+    find-after_placing newest m n c packets ∙ by_test (eq_by_cmp nat_cmp n m) refl where
+  by_test : (b : Bool) → eq_by_cmp nat_cmp n m ≡ b →
+      cond b (Some c) (cond (in_window newest n) (at n packets) None) ≡ Some content
   by_test true same = absurd (apart (same_key n m same))
   by_test false other = ap (λ b. cond b (at n packets) None) inside ∙ there
 
@@ -74,14 +85,16 @@ newest-upto (Some m) n young = let less : m < n + WINDOW = leb-false (n + WINDOW
 
 -- the window, as an order
 pub window-order : (newest n : ℕ) → in_window newest n ≡ true → (newest < n + WINDOW) × (n ≤ newest)
-window-order newest n is = let both : (nat_lt newest (n + WINDOW) ≡ true) × (nat_le n newest ≡ true) = and_parts _ _ is in (ltb-true newest (n + WINDOW) both.0, leb-true n newest both.1)
+window-order newest n is = let both : (nat_lt newest (n + WINDOW) ≡ true) × (nat_le n newest ≡ true) =
+    and_parts _ _ is in (ltb-true newest (n + WINDOW) both.0, leb-true n newest both.1)
 
 -- and back
 pub order-window : (newest n : ℕ) → newest < n + WINDOW → n ≤ newest → in_window newest n ≡ true
 order-window newest n above upto = and_from _ _ (lt-ltb newest (n + WINDOW) above) (le-leb n newest upto)
 
 -- a pull leaves the window
-pub pull_window : (codec : Meaning) (past : List Snapshot) (moment : ℕ) (o : Option Run) → (after_pull codec past moment o).window ≡ (latest past).window
+pub pull_window : (codec : Meaning) (past : List Snapshot) (moment : ℕ) (o : Option Run) →
+    (after_pull codec past moment o).window ≡ (latest past).window
 pull_window codec past moment None = refl
 pull_window codec past moment (Some run) = refl
 
@@ -97,24 +110,33 @@ rest_of (e ∷ h) = h
 
 module _ (settings : Settings) (codec : Meaning) (n : ℕ) (content : Content) where
   -- what was taken in a history was taken in the history with one event more
-  taken_before : (h : List Event) (e : Event) → WasTaken settings codec h n content → WasTaken settings codec (e ∷ h) n content
-  taken_before h e w = record { before = w.before; moment = w.moment; octets = w.octets; after = e ∷ w.after; history = ap (λ (t : List Event). e ∷ t) w.history; taken = w.taken }
+  taken_before : (h : List Event) (e : Event) → WasTaken settings codec h n content →
+      WasTaken settings codec (e ∷ h) n content
+  taken_before h e w = record {
+      before = w.before; moment = w.moment; octets = w.octets; after = e ∷ w.after; history =
+      ap (λ (t : List Event). e ∷ t) w.history; taken = w.taken }
 
   -- what is available was taken, and lies in the window
   abbrev Comes : List Event → Contents Content → Type 0
-  Comes h window = at n window.packets ≡ Some content → WasTaken settings codec h n content × IsInWindow window.newest n
+  Comes h window =
+      at n window.packets ≡ Some content → WasTaken settings codec h n content × IsInWindow window.newest n
 
   -- so it is after a datagram
-  available_after : (h : List Event) (moment : ℕ) (octets : List ℕ) (v : Result (ℕ × Content) NotTaken) → verdict settings codec (latest (snapshots settings codec h)).window octets ≡ v → Comes h (latest (snapshots settings codec h)).window
+  available_after : (h : List Event) (moment : ℕ) (octets : List ℕ) (v : Result (ℕ × Content) NotTaken) →
+      verdict settings codec (latest (snapshots settings codec h)).window octets ≡ v →
+      Comes h (latest (snapshots settings codec h)).window
       → Comes (Datagram moment octets ∷ h) (after_datagram codec (snapshots settings codec h) moment v).window
-  available_after h moment octets (Err left) is old there = (taken_before h (Datagram moment octets) (old there).0, (old there).1)
+  available_after h moment octets (Err left) is old there =
+      (taken_before h (Datagram moment octets) (old there).0, (old there).1)
   available_after h moment octets (Ok (m, c)) is old there =
       let window : Contents Content = (latest (snapshots settings codec h)).window in
       elim (placed_at (newest_with window.newest m) m n c content window.packets there) [
         | inl new ↦
             let same : m ≡ n = sym new.0 in
             let least : m ≤ newest_with window.newest m = newest-from window.newest m in
-            let most : newest_with window.newest m < m + WINDOW = newest-upto window.newest m (fresh-is window m (verdict-taken settings codec window octets m c is).fresh).young in (
+            let most : newest_with window.newest m < m + WINDOW =
+                newest-upto window.newest m
+                (fresh-is window m (verdict-taken settings codec window octets m c is).fresh).young in (
               record {
                 before = h;
                 moment = moment;
@@ -125,7 +147,8 @@ module _ (settings : Settings) (codec : Meaning) (n : ℕ) (content : Content) w
               },
               (omega arith, omega arith),
             )
-        | inr more ↦ (taken_before h (Datagram moment octets) (old more.1).0, window-order (newest_with window.newest m) n more.0)
+        | inr more ↦ (taken_before h (Datagram moment octets) (old more.1).0,
+            window-order (newest_with window.newest m) n more.0)
       ] where
         ok_with : Content → Result (ℕ × Content) NotTaken
         ok_with x = Ok (n, x)
@@ -134,13 +157,17 @@ module _ (settings : Settings) (codec : Meaning) (n : ℕ) (content : Content) w
   comes : (h : List Event) → Comes h (latest (snapshots settings codec h)).window
   unfolding snapshots
   comes [] there = absurd (none-some content there)
-  comes (Datagram moment octets ∷ h) there = available_after h moment octets (verdict settings codec (latest (snapshots settings codec h)).window octets) refl (comes h) there
+  comes (Datagram moment octets ∷ h) there =
+      available_after h moment octets
+      (verdict settings codec (latest (snapshots settings codec h)).window octets) refl (comes h) there
   comes (Tick moment ∷ h) there = let before = comes h there in (taken_before h (Tick moment) before.0, before.1)
   comes (Pull moment ∷ h) there =
       let past : List Snapshot = snapshots settings codec h in
-      let same : (after_pull codec past moment (next_run (latest past))).window ≡ (latest past).window = pull_window codec past moment (next_run (latest past)) in
+      let same : (after_pull codec past moment (next_run (latest past))).window ≡ (latest past).window =
+          pull_window codec past moment (next_run (latest past)) in
       let before = comes h (ap (λ (w : Contents Content). at n w.packets) (sym same) ∙ there) in
-      (taken_before h (Pull moment) before.0, subst (λ (w : Contents Content). IsInWindow w.newest n) (sym same) before.1)
+      (taken_before h (Pull moment) before.0,
+      subst (λ (w : Contents Content). IsInWindow w.newest n) (sym same) before.1)
 
   -- the newest number isn't below this one, which is available with this content while it lies in the window
   record IsStill (window : Contents Content) : Type 0 where
@@ -148,12 +175,15 @@ module _ (settings : Settings) (codec : Meaning) (n : ℕ) (content : Content) w
     there : IsInWindow window.newest n → at n window.packets ≡ Some content
 
   -- so it is once it is placed
-  still-new : (window : Contents Content) → IsStill (placed n content window)
-  still-new window = record { upto = newest-from window.newest n; there = λ inside. placed_new (newest_with window.newest n) n content window.packets }
+  still-new : (window : Contents Content) → IsStill (after_placing n content window)
+  still-new window = record {
+      upto = newest-from window.newest n; there =
+      λ inside. placed_new (newest_with window.newest n) n content window.packets }
 
   -- and so it stays when another number is placed
-  still-placed : (window : Contents Content) (m : ℕ) (c : Content) → IsFresh window m → IsStill window → IsStill (placed m c window)
-  still-placed window m c fresh still = record { upto = upto; there = there } where
+  still-after_placing : (window : Contents Content) (m : ℕ) (c : Content) → IsFresh window m → IsStill window →
+      IsStill (after_placing m c window)
+  still-after_placing window m c fresh still = record { upto = upto; there = there } where
     known : (k : ℕ) × (window.newest ≡ Some k) × (n ≤ k)
     known = some_and (λ k. n ≤ k) window.newest still.upto
 
@@ -174,47 +204,69 @@ module _ (settings : Settings) (codec : Meaning) (n : ℕ) (content : Content) w
         let stands : at n window.packets ≡ Some content = still.there (inside (omega (arith, less, same))) in
         true≢false (ap is_some (sym stands) ∙ ap (λ k. is_some (at k window.packets)) same ∙ fresh.free)
 
-    there : IsInWindow (Some (newest_with window.newest m)) n → at n (placed_in (newest_with window.newest m) m c window.packets) ≡ Some content
+    there : IsInWindow (Some (newest_with window.newest m)) n →
+        at n (entries_with (newest_with window.newest m) m c window.packets) ≡ Some content
     there within =
         placed_old (newest_with window.newest m) m n c content window.packets apart
         (order-window (newest_with window.newest m) n within.0 within.1)
         (still.there (inside (omega (arith, within.0, newest_is))))
 
   -- so it is after an event more
-  still_datagram : (past : List Snapshot) (moment : ℕ) (octets : List ℕ) (v : Result (ℕ × Content) NotTaken) → verdict settings codec (latest past).window octets ≡ v → IsStill (latest past).window → IsStill (after_datagram codec past moment v).window
+  still_datagram : (past : List Snapshot) (moment : ℕ) (octets : List ℕ) (v : Result (ℕ × Content) NotTaken) →
+      verdict settings codec (latest past).window octets ≡ v → IsStill (latest past).window →
+      IsStill (after_datagram codec past moment v).window
   still_datagram past moment octets (Err left) is still = still
-  still_datagram past moment octets (Ok (m, c)) is still = still-placed (latest past).window m c (fresh-is (latest past).window m (verdict-taken settings codec (latest past).window octets m c is).fresh) still
+  still_datagram past moment octets (Ok (m, c)) is still =
+      still-after_placing (latest past).window m c
+      (fresh-is (latest past).window m (verdict-taken settings codec (latest past).window octets m c is).fresh) still
 
-  still_next : (h : List Event) (e : Event) → IsStill (latest (snapshots settings codec h)).window → IsStill (latest (snapshots settings codec (e ∷ h))).window
+  still_next : (h : List Event) (e : Event) → IsStill (latest (snapshots settings codec h)).window →
+      IsStill (latest (snapshots settings codec (e ∷ h))).window
   unfolding snapshots
-  still_next h (Datagram moment octets) still = still_datagram (snapshots settings codec h) moment octets (verdict settings codec (latest (snapshots settings codec h)).window octets) refl still
+  still_next h (Datagram moment octets) still =
+      still_datagram (snapshots settings codec h) moment octets
+      (verdict settings codec (latest (snapshots settings codec h)).window octets) refl still
   still_next h (Tick moment) still = record { upto = still.upto; there = still.there }
   still_next h (Pull moment) still =
       let past : List Snapshot = snapshots settings codec h in
       subst IsStill (sym (pull_window codec past moment (next_run (latest past)))) still
 
   -- so it is after the event that it came by
-  still_taken : (h : List Event) (moment : ℕ) (octets : List ℕ) → verdict settings codec (latest (snapshots settings codec h)).window octets ≡ Ok (n, content) → IsStill (latest (snapshots settings codec (Datagram moment octets ∷ h))).window
+  still_taken : (h : List Event) (moment : ℕ) (octets : List ℕ) →
+      verdict settings codec (latest (snapshots settings codec h)).window octets ≡ Ok (n, content) →
+      IsStill (latest (snapshots settings codec (Datagram moment octets ∷ h))).window
   unfolding snapshots
   still_taken h moment octets taken =
       let past : List Snapshot = snapshots settings codec h in
       subst (λ v. IsStill (after_datagram codec past moment v).window) (sym taken) (still-new (latest past).window)
 
   -- so it is after each history in which it was taken
-  still : (h : List Event) → WasTaken settings codec h n content → IsStill (latest (snapshots settings codec h)).window
+  still : (h : List Event) → WasTaken settings codec h n content →
+      IsStill (latest (snapshots settings codec h)).window
   still [] w = none w.after w.history where
-    none : (after : List Event) → [] ≡ after ++ Datagram w.moment w.octets ∷ w.before → IsStill (latest (snapshots settings codec [])).window
+    none : (after : List Event) → [] ≡ after ++ Datagram w.moment w.octets ∷ w.before →
+        IsStill (latest (snapshots settings codec [])).window
     none [] is = absurd (cc)
     none (e ∷ after) is = absurd (cc)
   still (e ∷ h) w = by_after w.after w.history (still h) where
-    by_after : (after : List Event) → e ∷ h ≡ after ++ Datagram w.moment w.octets ∷ w.before → (WasTaken settings codec h n content → IsStill (latest (snapshots settings codec h)).window) → IsStill (latest (snapshots settings codec (e ∷ h))).window
-    by_after [] is earlier = subst (λ t. IsStill (latest (snapshots settings codec t)).window) (sym is) (still_taken w.before w.moment w.octets w.taken)
-    by_after (a ∷ after) is earlier = still_next h e (earlier (record { before = w.before; moment = w.moment; octets = w.octets; after = after; history = ap rest_of is; taken = w.taken }))
+    by_after : (after : List Event) → e ∷ h ≡ after ++ Datagram w.moment w.octets ∷ w.before →
+        (WasTaken settings codec h n content → IsStill (latest (snapshots settings codec h)).window) →
+        IsStill (latest (snapshots settings codec (e ∷ h))).window
+    by_after [] is earlier =
+        subst (λ t. IsStill (latest (snapshots settings codec t)).window) (sym is)
+        (still_taken w.before w.moment w.octets w.taken)
+    by_after (a ∷ after) is earlier =
+        still_next h e (earlier (record {
+        before = w.before; moment = w.moment; octets = w.octets; after = after; history = ap rest_of is; taken =
+        w.taken }))
 
 -- a number is available exactly if it was taken and lies in the window
 pub available_are : AvailableHolds
-available_are settings codec h n content = (comes settings codec n content h, λ was. (still settings codec n content h was.0).there was.1)
+available_are settings codec h n content =
+    (comes settings codec n content h, λ was. (still settings codec n content h was.0).there was.1)
 
 -- what is available lies in the window
-pub available-inside : (settings : Settings) (codec : Meaning) (h : List Event) (n : ℕ) (content : Content) → at n (latest (snapshots settings codec h)).window.packets ≡ Some content → IsInWindow (latest (snapshots settings codec h)).window.newest n
+pub available-inside : (settings : Settings) (codec : Meaning) (h : List Event) (n : ℕ) (content : Content) →
+    at n (latest (snapshots settings codec h)).window.packets ≡ Some content →
+    IsInWindow (latest (snapshots settings codec h)).window.newest n
 available-inside settings codec h n content there = (comes settings codec n content h there).1

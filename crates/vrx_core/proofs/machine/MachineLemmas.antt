@@ -5,29 +5,33 @@ use Rattle.vrx_window.specs.Content.{Content}
 use Rattle.vrx_frames.specs.Run.{Run}
 use Rattle.vrx_core.specs.machine.Clock.{ClockHolds}
 use Rattle.vrx_core.specs.machine.Verdict.{verdict}
-use Rattle.vrx_core.specs.machine.Machine.{Snapshot, latest, after_datagram, after_pull, next, next_run, reply_between, grown, snapshots, reply}
+use Rattle.vrx_core.specs.machine.Machine.{Snapshot, latest, after_datagram, after_pull, next, next_run, reply_between, with_next, snapshots, reply}
 use Rattle.vrx_core.specs.declared.settings.Settings.{Settings}
 use Rattle.vrx_core.specs.declared.original.NotTaken.{NotTaken}
 use Rattle.vrx_core.specs.declared.event.Event.{Event}
 use Rattle.vrx_core.specs.declared.event.Event.TheVariants.{Datagram, Tick, Pull}
 
 -- what stands after one event more
-pub snapshots-cons : (settings : Settings) (codec : Meaning) (e : Event) (h : List Event) → snapshots settings codec (e ∷ h) ≡ grown settings codec (snapshots settings codec h) e
+pub snapshots-cons : (settings : Settings) (codec : Meaning) (e : Event) (h : List Event) →
+    snapshots settings codec (e ∷ h) ≡ with_next settings codec (snapshots settings codec h) e
 unfolding snapshots
 snapshots-cons settings codec e h = refl
 
 pub reply-is : (settings : Settings) (codec : Meaning) (h : List Event) (e : Event)
-    → reply settings codec h e ≡ reply_between settings codec (snapshots settings codec h) (next settings codec (snapshots settings codec h) e) e
+    → reply settings codec h e ≡ reply_between settings codec (snapshots settings codec h)
+    (next settings codec (snapshots settings codec h) e) e
 unfolding reply
 reply-is settings codec h e = refl
 
 -- a datagram moves the clock
-datagram_now : (codec : Meaning) (past : List Snapshot) (moment : ℕ) (v : Result (ℕ × Content) NotTaken) → (after_datagram codec past moment v).now ≡ max (latest past).now moment
+datagram_now : (codec : Meaning) (past : List Snapshot) (moment : ℕ) (v : Result (ℕ × Content) NotTaken) →
+    (after_datagram codec past moment v).now ≡ max (latest past).now moment
 datagram_now codec past moment (Ok (n, content)) = refl
 datagram_now codec past moment (Err left) = refl
 
 -- and so does a pull
-pull_now : (codec : Meaning) (past : List Snapshot) (moment : ℕ) (o : Option Run) → (after_pull codec past moment o).now ≡ max (latest past).now moment
+pull_now : (codec : Meaning) (past : List Snapshot) (moment : ℕ) (o : Option Run) →
+    (after_pull codec past moment o).now ≡ max (latest past).now moment
 pull_now codec past moment None = refl
 pull_now codec past moment (Some run) = refl
 
@@ -37,7 +41,8 @@ unfolding snapshots
 clock-is settings codec [] = refl
 clock-is settings codec (Datagram moment octets ∷ h) =
     let past : List Snapshot = snapshots settings codec h in
-    datagram_now codec past moment (verdict settings codec (latest past).window octets) ∙ ap (λ c. max c moment) (clock-is settings codec h)
+    datagram_now codec past moment (verdict settings codec (latest past).window octets)
+    ∙ ap (λ c. max c moment) (clock-is settings codec h)
 clock-is settings codec (Tick moment ∷ h) = ap (λ c. max c moment) (clock-is settings codec h)
 clock-is settings codec (Pull moment ∷ h) =
     let past : List Snapshot = snapshots settings codec h in

@@ -31,31 +31,41 @@ bad_types types = (
 )
 
 -- a place of a member
-held-to : (members : List ℕ) (member : ℕ) → holds members member ≡ true → (k : ℕ) × (k < length members) × (slice_index members k ≡ member)
+held-to : (members : List ℕ) (member : ℕ) → holds members member ≡ true →
+    (k : ℕ) × (k < length members) × (slice_index members k ≡ member)
 held-to [] member h = absurd (false≢true h)
 held-to (other ∷ members) member h = elim (or_cases (other == member) (holds members member) h) [
   | inl same ↦ (0, omega arith, eqb-true other member same)
   | inr more ↦ let k = held-to members member more in (suc k.0, omega (arith, k.1), k.2)
 ]
 
-held-from : (members : List ℕ) (member k : ℕ) → k < length members → slice_index members k ≡ member → holds members member ≡ true
+held-from : (members : List ℕ) (member k : ℕ) → k < length members → slice_index members k ≡ member →
+    holds members member ≡ true
 held-from [] member k within is = absurd (omega (arith, within))
 held-from (other ∷ members) member zero within is = or_left _ _ (eq-eqb other member is)
-held-from (other ∷ members) member (suc k) within is = or_right _ _ (held-from members member k (omega (arith, within)) is)
+held-from (other ∷ members) member (suc k) within is =
+    or_right _ _ (held-from members member k (omega (arith, within)) is)
 
 -- two members are equal, as the test says it
 equal-to : (members : List ℕ) → has_equal members ≡ true → HasEqual members
 equal-to [] h = absurd (false≢true h)
 equal-to (member ∷ members) h = elim (or_cases (holds members member) (has_equal members) h) [
-  | inl first ↦ let k = held-to members member first in record { earlier = 0; later = suc k.0; apart = omega arith; within = omega (arith, k.1); same = sym k.2 }
-  | inr more ↦ let e = equal-to members more in record { earlier = suc e.earlier; later = suc e.later; apart = omega (arith, e.apart); within = omega (arith, e.within); same = e.same }
+  | inl first ↦ let k = held-to members member first in
+      record { earlier = 0; later = suc k.0; apart = omega arith; within = omega (arith, k.1); same = sym k.2 }
+  | inr more ↦ let e = equal-to members more in
+      record {
+      earlier = suc e.earlier; later = suc e.later; apart = omega (arith, e.apart); within =
+      omega (arith, e.within); same = e.same }
 ]
 
-equal-at : (members : List ℕ) (i j : ℕ) → i < j → j < length members → slice_index members i ≡ slice_index members j → has_equal members ≡ true
+equal-at : (members : List ℕ) (i j : ℕ) → i < j → j < length members → slice_index members i ≡ slice_index members j →
+    has_equal members ≡ true
 equal-at [] i j apart within same = absurd (omega (arith, within))
 equal-at (member ∷ members) i zero apart within same = absurd (omega (arith, apart))
-equal-at (member ∷ members) zero (suc j) apart within same = or_left _ _ (held-from members member j (omega (arith, within)) (sym same))
-equal-at (member ∷ members) (suc i) (suc j) apart within same = or_right _ _ (equal-at members i j (omega (arith, apart)) (omega (arith, within)) same)
+equal-at (member ∷ members) zero (suc j) apart within same =
+    or_left _ _ (held-from members member j (omega (arith, within)) (sym same))
+equal-at (member ∷ members) (suc i) (suc j) apart within same =
+    or_right _ _ (equal-at members i j (omega (arith, apart)) (omega (arith, within)) same)
 
 equals : (members : List ℕ) → (has_equal members ≡ true) ↔ HasEqual members
 equals members = (equal-to members, λ e. equal-at members e.earlier e.later e.apart e.within e.same)
@@ -71,12 +81,15 @@ absent-from (Some x) h = absurd (true≢false h)
 
 red_missing : (settings : Settings) → (lacks_red settings ≡ true) ↔ Says settings RedMissing
 red_missing settings = (
-  λ h. let both = and_parts (is_some (option_and_then (λ rtx. rtx.red_rtx_type) settings.rtx)) (is_none settings.red) h in (both.0, absent-to settings.red both.1),
+  λ h. let both = and_parts (is_some (option_and_then (λ rtx. rtx.red_rtx_type) settings.rtx))
+      (is_none settings.red) h in (both.0, absent-to settings.red both.1),
   λ s. and_from _ _ s.0 (absent-from settings.red s.1),
 )
 
 bad_interval-to : (interval : ℕ) → is_bad_interval interval ≡ true → (interval ≡ 0) ⊎ (60000 < interval)
-bad_interval-to interval h = elim (or_cases _ _ h) [ inl none ↦ inl (eqb-true interval 0 none) | inr above ↦ inr (ltb-true 60000 interval above) ]
+bad_interval-to interval h =
+    elim (or_cases _ _ h) [ inl none ↦ inl (eqb-true interval 0 none) | inr above ↦ inr
+    (ltb-true 60000 interval above) ]
 
 bad_interval-from : (interval : ℕ) → (interval ≡ 0) ⊎ (60000 < interval) → is_bad_interval interval ≡ true
 bad_interval-from interval (inl none) = or_left _ _ (eq-eqb interval 0 none)
@@ -87,17 +100,21 @@ later-from settings (inl red) = or_left _ _ red
 later-from settings (inr rtx) = or_right _ _ rtx
 
 -- another fault comes if the first test says nothing, and one after it does
-peel : {P X : Type 0} (test : Bool) (fault other : NewFault) (others : Option NewFault) → fault ≢ other → (test ≡ true) ↔ P → (others ≡ Some other) ↔ X → (first_of test fault others ≡ Some other) ↔ ((¬ P) × X)
-peel true fault other others apart means later = (λ h. absurd (apart (same_Some fault other h)), λ x. absurd (x.0 (means.0 refl)))
+peel : {P X : Type 0} (test : Bool) (fault other : NewFault) (others : Option NewFault) → fault ≢ other →
+    (test ≡ true) ↔ P → (others ≡ Some other) ↔ X → (first_of test fault others ≡ Some other) ↔ ((¬ P) × X)
+peel true fault other others apart means later =
+    (λ h. absurd (apart (same_Some fault other h)), λ x. absurd (x.0 (means.0 refl)))
 peel false fault other others apart means later = (λ h. (λ p. false≢true (means.1 p), later.0 h), λ x. later.1 x.1)
 
 -- this one comes if its test says so
-hit : {P : Type 0} (test : Bool) (fault : NewFault) (others : Option NewFault) → (others ≡ Some fault → ⊥) → (test ≡ true) ↔ P → (first_of test fault others ≡ Some fault) ↔ P
+hit : {P : Type 0} (test : Bool) (fault : NewFault) (others : Option NewFault) → (others ≡ Some fault → ⊥) →
+    (test ≡ true) ↔ P → (first_of test fault others ≡ Some fault) ↔ P
 hit true fault others never means = (λ h. means.0 refl, λ p. refl)
 hit false fault others never means = (λ h. absurd (never h), λ p. absurd (false≢true (means.1 p)))
 
 -- a fault that no test has
-never : (test : Bool) (fault other : NewFault) (others : Option NewFault) → fault ≢ other → (others ≡ Some other → ⊥) → first_of test fault others ≡ Some other → ⊥
+never : (test : Bool) (fault other : NewFault) (others : Option NewFault) → fault ≢ other →
+    (others ≡ Some other → ⊥) → first_of test fault others ≡ Some other → ⊥
 never true fault other others apart behind h = apart (same_Some fault other h)
 never false fault other others apart behind h = behind h
 
@@ -122,34 +139,90 @@ module _ (settings : Settings) where
   from_0 = first_of (list_any is_bad_type (types_of settings)) BadType from_1
 
   pub fault-bad_type : (fault_of settings ≡ Some BadType) ↔ IsFault settings BadType
-  fault-bad_type = hit (list_any is_bad_type (types_of settings)) BadType from_1 (never (has_equal (types_of settings)) SameType BadType from_2 (λ e. cc) (never (has_equal (ssrcs_of settings)) SameSsrc BadType from_3 (λ e. cc) (never (lacks_red settings) RedMissing BadType from_4 (λ e. cc) (never (is_bad_interval settings.interval) BadInterval BadType from_5 (λ e. cc) (never (is_later settings) Later BadType None (λ e. cc) (λ e. none-some BadType e)))))) (bad_types (types_of settings))
+  fault-bad_type = hit (list_any is_bad_type (types_of settings)) BadType from_1
+      (never (has_equal (types_of settings)) SameType BadType from_2 (λ e. cc)
+      (never (has_equal (ssrcs_of settings)) SameSsrc BadType from_3 (λ e. cc)
+      (never (lacks_red settings) RedMissing BadType from_4 (λ e. cc)
+      (never (is_bad_interval settings.interval) BadInterval BadType from_5 (λ e. cc)
+      (never (is_later settings) Later BadType None (λ e. cc) (λ e. none-some BadType e))))))
+      (bad_types (types_of settings))
 
   pub fault-same_type : (fault_of settings ≡ Some SameType) ↔ IsFault settings SameType
-  fault-same_type = peel (list_any is_bad_type (types_of settings)) BadType SameType from_1 (λ e. cc) (bad_types (types_of settings)) (hit (has_equal (types_of settings)) SameType from_2 (never (has_equal (ssrcs_of settings)) SameSsrc SameType from_3 (λ e. cc) (never (lacks_red settings) RedMissing SameType from_4 (λ e. cc) (never (is_bad_interval settings.interval) BadInterval SameType from_5 (λ e. cc) (never (is_later settings) Later SameType None (λ e. cc) (λ e. none-some SameType e))))) (equals (types_of settings)))
+  fault-same_type = peel (list_any is_bad_type (types_of settings)) BadType SameType from_1 (λ e. cc)
+      (bad_types (types_of settings))
+      (hit (has_equal (types_of settings)) SameType from_2
+      (never (has_equal (ssrcs_of settings)) SameSsrc SameType from_3 (λ e. cc)
+      (never (lacks_red settings) RedMissing SameType from_4 (λ e. cc)
+      (never (is_bad_interval settings.interval) BadInterval SameType from_5 (λ e. cc)
+      (never (is_later settings) Later SameType None (λ e. cc) (λ e. none-some SameType e)))))
+      (equals (types_of settings)))
 
-  nested-same_ssrc : (fault_of settings ≡ Some SameSsrc) ↔ ((¬ Says settings BadType) × ((¬ Says settings SameType) × (Says settings SameSsrc)))
-  nested-same_ssrc = peel (list_any is_bad_type (types_of settings)) BadType SameSsrc from_1 (λ e. cc) (bad_types (types_of settings)) (peel (has_equal (types_of settings)) SameType SameSsrc from_2 (λ e. cc) (equals (types_of settings)) (hit (has_equal (ssrcs_of settings)) SameSsrc from_3 (never (lacks_red settings) RedMissing SameSsrc from_4 (λ e. cc) (never (is_bad_interval settings.interval) BadInterval SameSsrc from_5 (λ e. cc) (never (is_later settings) Later SameSsrc None (λ e. cc) (λ e. none-some SameSsrc e)))) (equals (ssrcs_of settings))))
+  nested-same_ssrc : (fault_of settings ≡ Some SameSsrc)
+      ↔ ((¬ Says settings BadType) × ((¬ Says settings SameType) × (Says settings SameSsrc)))
+  nested-same_ssrc = peel (list_any is_bad_type (types_of settings)) BadType SameSsrc from_1 (λ e. cc)
+      (bad_types (types_of settings))
+      (peel (has_equal (types_of settings)) SameType SameSsrc from_2 (λ e. cc) (equals (types_of settings))
+      (hit (has_equal (ssrcs_of settings)) SameSsrc from_3
+      (never (lacks_red settings) RedMissing SameSsrc from_4 (λ e. cc)
+      (never (is_bad_interval settings.interval) BadInterval SameSsrc from_5 (λ e. cc)
+      (never (is_later settings) Later SameSsrc None (λ e. cc) (λ e. none-some SameSsrc e))))
+      (equals (ssrcs_of settings))))
 
   pub fault-same_ssrc : (fault_of settings ≡ Some SameSsrc) ↔ IsFault settings SameSsrc
-  fault-same_ssrc = (λ h. let x = nested-same_ssrc.0 h in (x.0, x.1.0, x.1.1), λ y. nested-same_ssrc.1 (y.0, (y.1, y.2)))
+  fault-same_ssrc =
+      (λ h. let x = nested-same_ssrc.0 h in (x.0, x.1.0, x.1.1), λ y. nested-same_ssrc.1 (y.0, (y.1, y.2)))
 
-  nested-red_missing : (fault_of settings ≡ Some RedMissing) ↔ ((¬ Says settings BadType) × ((¬ Says settings SameType) × ((¬ Says settings SameSsrc) × (Says settings RedMissing))))
-  nested-red_missing = peel (list_any is_bad_type (types_of settings)) BadType RedMissing from_1 (λ e. cc) (bad_types (types_of settings)) (peel (has_equal (types_of settings)) SameType RedMissing from_2 (λ e. cc) (equals (types_of settings)) (peel (has_equal (ssrcs_of settings)) SameSsrc RedMissing from_3 (λ e. cc) (equals (ssrcs_of settings)) (hit (lacks_red settings) RedMissing from_4 (never (is_bad_interval settings.interval) BadInterval RedMissing from_5 (λ e. cc) (never (is_later settings) Later RedMissing None (λ e. cc) (λ e. none-some RedMissing e))) (red_missing settings))))
+  nested-red_missing : (fault_of settings ≡ Some RedMissing)
+      ↔ ((¬ Says settings BadType)
+      × ((¬ Says settings SameType) × ((¬ Says settings SameSsrc) × (Says settings RedMissing))))
+  nested-red_missing = peel (list_any is_bad_type (types_of settings)) BadType RedMissing from_1 (λ e. cc)
+      (bad_types (types_of settings))
+      (peel (has_equal (types_of settings)) SameType RedMissing from_2 (λ e. cc) (equals (types_of settings))
+      (peel (has_equal (ssrcs_of settings)) SameSsrc RedMissing from_3 (λ e. cc) (equals (ssrcs_of settings))
+      (hit (lacks_red settings) RedMissing from_4
+      (never (is_bad_interval settings.interval) BadInterval RedMissing from_5 (λ e. cc)
+      (never (is_later settings) Later RedMissing None (λ e. cc) (λ e. none-some RedMissing e)))
+      (red_missing settings))))
 
   pub fault-red_missing : (fault_of settings ≡ Some RedMissing) ↔ IsFault settings RedMissing
-  fault-red_missing = (λ h. let x = nested-red_missing.0 h in (x.0, x.1.0, x.1.1.0, x.1.1.1), λ y. nested-red_missing.1 (y.0, (y.1, (y.2, y.3))))
+  fault-red_missing = (λ h. let x = nested-red_missing.0 h in
+      (x.0, x.1.0, x.1.1.0, x.1.1.1), λ y. nested-red_missing.1 (y.0, (y.1, (y.2, y.3))))
 
-  nested-bad_interval : (fault_of settings ≡ Some BadInterval) ↔ ((¬ Says settings BadType) × ((¬ Says settings SameType) × ((¬ Says settings SameSsrc) × ((¬ Says settings RedMissing) × (Says settings BadInterval)))))
-  nested-bad_interval = peel (list_any is_bad_type (types_of settings)) BadType BadInterval from_1 (λ e. cc) (bad_types (types_of settings)) (peel (has_equal (types_of settings)) SameType BadInterval from_2 (λ e. cc) (equals (types_of settings)) (peel (has_equal (ssrcs_of settings)) SameSsrc BadInterval from_3 (λ e. cc) (equals (ssrcs_of settings)) (peel (lacks_red settings) RedMissing BadInterval from_4 (λ e. cc) (red_missing settings) (hit (is_bad_interval settings.interval) BadInterval from_5 (never (is_later settings) Later BadInterval None (λ e. cc) (λ e. none-some BadInterval e)) (bad_interval-to settings.interval, bad_interval-from settings.interval)))))
+  nested-bad_interval : (fault_of settings ≡ Some BadInterval)
+      ↔ ((¬ Says settings BadType)
+      × ((¬ Says settings SameType)
+      × ((¬ Says settings SameSsrc) × ((¬ Says settings RedMissing) × (Says settings BadInterval)))))
+  nested-bad_interval = peel (list_any is_bad_type (types_of settings)) BadType BadInterval from_1 (λ e. cc)
+      (bad_types (types_of settings))
+      (peel (has_equal (types_of settings)) SameType BadInterval from_2 (λ e. cc) (equals (types_of settings))
+      (peel (has_equal (ssrcs_of settings)) SameSsrc BadInterval from_3 (λ e. cc) (equals (ssrcs_of settings))
+      (peel (lacks_red settings) RedMissing BadInterval from_4 (λ e. cc) (red_missing settings)
+      (hit (is_bad_interval settings.interval) BadInterval from_5
+      (never (is_later settings) Later BadInterval None (λ e. cc) (λ e. none-some BadInterval e))
+      (bad_interval-to settings.interval, bad_interval-from settings.interval)))))
 
   pub fault-bad_interval : (fault_of settings ≡ Some BadInterval) ↔ IsFault settings BadInterval
-  fault-bad_interval = (λ h. let x = nested-bad_interval.0 h in (x.0, x.1.0, x.1.1.0, x.1.1.1.0, x.1.1.1.1), λ y. nested-bad_interval.1 (y.0, (y.1, (y.2, (y.3, y.4)))))
+  fault-bad_interval = (λ h. let x = nested-bad_interval.0 h in
+      (x.0, x.1.0, x.1.1.0, x.1.1.1.0, x.1.1.1.1), λ y. nested-bad_interval.1 (y.0, (y.1, (y.2, (y.3, y.4)))))
 
-  nested-later : (fault_of settings ≡ Some Later) ↔ ((¬ Says settings BadType) × ((¬ Says settings SameType) × ((¬ Says settings SameSsrc) × ((¬ Says settings RedMissing) × ((¬ Says settings BadInterval) × (Says settings Later))))))
-  nested-later = peel (list_any is_bad_type (types_of settings)) BadType Later from_1 (λ e. cc) (bad_types (types_of settings)) (peel (has_equal (types_of settings)) SameType Later from_2 (λ e. cc) (equals (types_of settings)) (peel (has_equal (ssrcs_of settings)) SameSsrc Later from_3 (λ e. cc) (equals (ssrcs_of settings)) (peel (lacks_red settings) RedMissing Later from_4 (λ e. cc) (red_missing settings) (peel (is_bad_interval settings.interval) BadInterval Later from_5 (λ e. cc) (bad_interval-to settings.interval, bad_interval-from settings.interval) (hit (is_later settings) Later None (λ e. none-some Later e) (or_cases _ _, later-from settings))))))
+  nested-later : (fault_of settings ≡ Some Later)
+      ↔ ((¬ Says settings BadType)
+      × ((¬ Says settings SameType)
+      × ((¬ Says settings SameSsrc)
+      × ((¬ Says settings RedMissing) × ((¬ Says settings BadInterval) × (Says settings Later))))))
+  nested-later = peel (list_any is_bad_type (types_of settings)) BadType Later from_1 (λ e. cc)
+      (bad_types (types_of settings))
+      (peel (has_equal (types_of settings)) SameType Later from_2 (λ e. cc) (equals (types_of settings))
+      (peel (has_equal (ssrcs_of settings)) SameSsrc Later from_3 (λ e. cc) (equals (ssrcs_of settings))
+      (peel (lacks_red settings) RedMissing Later from_4 (λ e. cc) (red_missing settings)
+      (peel (is_bad_interval settings.interval) BadInterval Later from_5 (λ e. cc)
+      (bad_interval-to settings.interval, bad_interval-from settings.interval)
+      (hit (is_later settings) Later None (λ e. none-some Later e) (or_cases _ _, later-from settings))))))
 
   pub fault-later : (fault_of settings ≡ Some Later) ↔ IsFault settings Later
-  fault-later = (λ h. let x = nested-later.0 h in (x.0, x.1.0, x.1.1.0, x.1.1.1.0, x.1.1.1.1.0, x.1.1.1.1.1), λ y. nested-later.1 (y.0, (y.1, (y.2, (y.3, (y.4, y.5))))))
+  fault-later = (λ h. let x = nested-later.0 h in
+      (x.0, x.1.0, x.1.1.0, x.1.1.1.0, x.1.1.1.1.0, x.1.1.1.1.1), λ y.
+      nested-later.1 (y.0, (y.1, (y.2, (y.3, (y.4, y.5))))))
 
 -- what an Err holds, else another fault
 err_or : {T : Type 0} → NewFault → Result T NewFault → NewFault
@@ -161,16 +234,22 @@ unfolding err_or
 same_Err f g h = ap (err_or f) h
 
 -- if the settings have a fault, that one is told
-pub told-fault : {T P : Type 0} (settings : Settings) (fault other : NewFault) → fault_of settings ≡ Some fault → (fault_of settings ≡ Some other) ↔ P → IsErrOf {T = T} (Err fault) other ↔ P
-told-fault settings fault other is means = (λ e. means.0 (is ∙ ap Some (same_Err fault other e)), λ p. ap Err (same_Some fault other (sym is ∙ means.1 p)))
+pub told-fault : {T P : Type 0} (settings : Settings) (fault other : NewFault) → fault_of settings ≡ Some fault →
+    (fault_of settings ≡ Some other) ↔ P → IsErrOf {T = T} (Err fault) other ↔ P
+told-fault settings fault other is means =
+    (λ e. means.0 (is ∙ ap Some (same_Err fault other e)), λ p. ap Err (same_Some fault other (sym is ∙ means.1 p)))
 
 -- if they have none, only out of memory is told
-pub told-none : {T P : Type 0} (settings : Settings) (r : Result T NewFault) (other : NewFault) → fault_of settings ≡ None → IfErr r (λ fault. fault ≡ NoMemory) → NoMemory ≢ other → (fault_of settings ≡ Some other) ↔ P → IsErrOf r other ↔ P
+pub told-none : {T P : Type 0} (settings : Settings) (r : Result T NewFault) (other : NewFault) →
+    fault_of settings ≡ None → IfErr r (λ fault. fault ≡ NoMemory) → NoMemory ≢ other →
+    (fault_of settings ≡ Some other) ↔ P → IsErrOf r other ↔ P
 told-none settings (Ok x) other is memory apart means = (λ e. cc, λ p. absurd (none-some other (sym is ∙ means.1 p)))
-told-none settings (Err fault) other is memory apart means = (λ e. absurd (apart (sym memory ∙ same_Err fault other e)), λ p. absurd (none-some other (sym is ∙ means.1 p)))
+told-none settings (Err fault) other is memory apart means =
+    (λ e. absurd (apart (sym memory ∙ same_Err fault other e)), λ p. absurd (none-some other (sym is ∙ means.1 p)))
 
 -- out of memory is no fault of settings
-not_first : (test : Bool) (fault : NewFault) (others : Option NewFault) → (fault ≡ NoMemory → ⊥) → first_of test fault others ≡ Some NoMemory → others ≡ Some NoMemory
+not_first : (test : Bool) (fault : NewFault) (others : Option NewFault) → (fault ≡ NoMemory → ⊥) →
+    first_of test fault others ≡ Some NoMemory → others ≡ Some NoMemory
 not_first true fault others other is = absurd (other (same_Some _ _ is))
 not_first false fault others other is = is
 
@@ -183,5 +262,6 @@ never-memory settings is = none-some NoMemory (
     not_first (has_equal (types_of settings)) SameType _ (λ e. cc) (
     not_first (list_any is_bad_type (types_of settings)) BadType _ (λ e. cc) is))))))
 
-pub never-fault : {T : Type 0} (settings : Settings) (fault : NewFault) → fault_of settings ≡ Some fault → IsErrOf {T = T} (Err fault) NoMemory → ⊥
+pub never-fault : {T : Type 0} (settings : Settings) (fault : NewFault) → fault_of settings ≡ Some fault →
+    IsErrOf {T = T} (Err fault) NoMemory → ⊥
 never-fault settings fault is told = never-memory settings (is ∙ ap Some (same_Err fault NoMemory told))

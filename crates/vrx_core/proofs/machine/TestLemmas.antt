@@ -5,11 +5,13 @@ use Rattle.std.proofs.lemmas.Bool.{or_cases, or_left, or_right}
 use Rattle.vrx_core.proofs.machine.MemberLemmas.{Contains-head, Contains-tail, Contains-either, Contains-empty}
 
 -- a value of the first of a list, or of one in the rest
-found_tail : {X : Type 0} (P : X → Type 0) (y : X) (xs : List X) → (x : X) × Contains xs x × P x → (x : X) × Contains (y ∷ xs) x × P x
+found_tail : {X : Type 0} (P : X → Type 0) (y : X) (xs : List X) → (x : X) × Contains xs x × P x →
+    (x : X) × Contains (y ∷ xs) x × P x
 found_tail P y xs p = (p.0, Contains-tail y xs p.0 p.1, p.2)
 
 -- a test that holds of some of a list
-pub list_any-from : {X : Type 0} (test : X → Bool) (xs : List X) → list_any test xs ≡ true → (x : X) × Contains xs x × (test x ≡ true)
+pub list_any-from : {X : Type 0} (test : X → Bool) (xs : List X) → list_any test xs ≡ true →
+    (x : X) × Contains xs x × (test x ≡ true)
 list_any-from test [] h = absurd (cc)
 list_any-from test (x ∷ xs) h = elim (or_cases (test x) (list_any test xs) h) [
   | inl here ↦ (x, Contains-head x xs, here)
@@ -17,7 +19,8 @@ list_any-from test (x ∷ xs) h = elim (or_cases (test x) (list_any test xs) h) 
 ]
 
 -- and back
-pub list_any-to : {X : Type 0} (test : X → Bool) (xs : List X) (x : X) → Contains xs x → test x ≡ true → list_any test xs ≡ true
+pub list_any-to : {X : Type 0} (test : X → Bool) (xs : List X) (x : X) → Contains xs x → test x ≡ true →
+    list_any test xs ≡ true
 list_any-to test [] x c h = absurd (Contains-empty x c)
 list_any-to test (y ∷ xs) x c h = elim (Contains-either y xs x c) [
   | inl same ↦ or_left (test y) (list_any test xs) (ap test same ∙ h)

@@ -6,7 +6,8 @@ use Rattle.std.specs.Result.{result_ok}
 use Rattle.std.proofs.lemmas.List.{length-append, nil_from_length, take_at}
 use Rattle.std.proofs.lemmas.List.Elements.{All-nil, All-cons, All-tail, All-append, All-take}
 use Rattle.std.proofs.lemmas.Option.{none-some, same_Some}
-use Rattle.vrx_rtp.specs.Packet.{Packet, AreOctets, Fits, IsPacket, first_octet, marker_and_type, fixed_header, extension_octets, padding_octets, spelled_with}
+use Rattle.vrx_rtp.specs.Packet.{Packet, Fits, IsPacket, first_octet, marker_and_type, fixed_header, extension_octets, padding_octets, octets_with}
+use Rattle.vrx_num.specs.Octets.{AreOctets}
 use Rattle.vrx_rtp.specs.Reading.{reading}
 use Rattle.vrx_rtp.specs.Rtcp.{IsRtcp}
 use Rattle.vrx_rtp.specs.declared.fault.RtpFault.{RtpFault}
@@ -23,7 +24,9 @@ reading-ok (Err fault) packet h = absurd (none-some packet h)
 
 -- without its padding a packet still fits
 pub fits-without : (p : Packet) → Fits p → Fits (without_padding p)
-fits-without p fits = record { pt = fits.pt; seq = fits.seq; ts = fits.ts; ssrc = fits.ssrc; csrc = fits.csrc; extension = fits.extension; padding = omega arith }
+fits-without p fits = record {
+    pt = fits.pt; seq = fits.seq; ts = fits.ts; ssrc = fits.ssrc; csrc = fits.csrc; extension =
+    fits.extension; padding = omega arith }
 
 -- so its text is a packet
 pub text-packet : (p : Packet) → Fits p → IsPacket (packet_text p) (without_padding p)
@@ -33,57 +36,76 @@ text-packet p fits = record { filler = []; filled = refl; spelled = refl; fits =
 pub plain-text : (octets : List ℕ) (p : Packet) → IsPacket octets p → p.padding ≡ 0 → octets ≡ packet_text p
 plain-text octets p is none =
     is.spelled
-    ∙ ap (λ filler. spelled_with filler p) (nil_from_length is.filler (let filled : length is.filler ≡ p.padding - 1 = is.filled in omega arith))
-    ∙ ap (λ n. spelled_with [] (record p { padding = n })) none
+    ∙ ap (λ filler. octets_with filler p)
+    (nil_from_length is.filler (let filled : length is.filler ≡ p.padding - 1 = is.filled in omega arith))
+    ∙ ap (λ n. octets_with [] (record p { padding = n })) none
 
 -- what follows the header makes octets longer
-longer : (header header' csrc extension payload padding : List ℕ) → length header ≡ length header' → length (header ++ csrc ++ extension ++ payload ++ []) ≤ length (header' ++ csrc ++ extension ++ payload ++ padding)
+longer : (header header' csrc extension payload padding : List ℕ) → length header ≡ length header' →
+    length (header ++ csrc ++ extension ++ payload ++ []) ≤ length
+    (header' ++ csrc ++ extension ++ payload ++ padding)
 longer header header' csrc extension payload padding same =
     let a : length (header ++ csrc) ≡ length header + length csrc = length-append header csrc in
-    let b : length (header ++ csrc ++ extension) ≡ length (header ++ csrc) + length extension = length-append (header ++ csrc) extension in
-    let c : length (header ++ csrc ++ extension ++ payload) ≡ length (header ++ csrc ++ extension) + length payload = length-append (header ++ csrc ++ extension) payload in
-    let d : length (header ++ csrc ++ extension ++ payload ++ []) ≡ length (header ++ csrc ++ extension ++ payload) + 0 = length-append (header ++ csrc ++ extension ++ payload) [] in
+    let b : length (header ++ csrc ++ extension) ≡ length (header ++ csrc) + length extension =
+        length-append (header ++ csrc) extension in
+    let c : length (header ++ csrc ++ extension ++ payload) ≡ length (header ++ csrc ++ extension) + length payload =
+        length-append (header ++ csrc ++ extension) payload in
+    let d : length (header ++ csrc ++ extension ++ payload ++ []) ≡ length
+        (header ++ csrc ++ extension ++ payload) + 0 = length-append (header ++ csrc ++ extension ++ payload) [] in
     let a' : length (header' ++ csrc) ≡ length header' + length csrc = length-append header' csrc in
-    let b' : length (header' ++ csrc ++ extension) ≡ length (header' ++ csrc) + length extension = length-append (header' ++ csrc) extension in
-    let c' : length (header' ++ csrc ++ extension ++ payload) ≡ length (header' ++ csrc ++ extension) + length payload = length-append (header' ++ csrc ++ extension) payload in
-    let d' : length (header' ++ csrc ++ extension ++ payload ++ padding) ≡ length (header' ++ csrc ++ extension ++ payload) + length padding = length-append (header' ++ csrc ++ extension ++ payload) padding in
+    let b' : length (header' ++ csrc ++ extension) ≡ length (header' ++ csrc) + length extension =
+        length-append (header' ++ csrc) extension in
+    let c' : length (header' ++ csrc ++ extension ++ payload) ≡ length
+        (header' ++ csrc ++ extension) + length payload = length-append (header' ++ csrc ++ extension) payload in
+    let d' : length (header' ++ csrc ++ extension ++ payload ++ padding) ≡ length
+        (header' ++ csrc ++ extension ++ payload) + length padding =
+        length-append (header' ++ csrc ++ extension ++ payload) padding in
     omega arith
 
 -- the text isn't longer than the octets
 pub text-upto : (octets : List ℕ) (p : Packet) → IsPacket octets p → length (packet_text p) ≤ length octets
 text-upto octets p is =
-    let more : length (packet_text p) ≤ length (spelled_with is.filler p) = longer (fixed_header (without_padding p)) (fixed_header p) p.csrc (extension_octets p.extension) p.payload (padding_octets is.filler p.padding) refl in
-    let same : length octets ≡ length (spelled_with is.filler p) = ap length is.spelled in
+    let more : length (packet_text p) ≤ length (octets_with is.filler p) =
+        longer (fixed_header (without_padding p)) (fixed_header p) p.csrc (extension_octets p.extension) p.payload
+        (padding_octets is.filler p.padding) refl in
+    let same : length octets ≡ length (octets_with is.filler p) = ap length is.spelled in
     omega arith
 
 -- octets are RTCP if their text is: the second octet is the same
 pub text-rtcp : (octets : List ℕ) (p : Packet) → IsPacket octets p → IsRtcp (packet_text p) → IsRtcp octets
-text-rtcp octets p is r = subst IsRtcp (sym is.spelled) (record { has_type = omega arith; at_least = r.at_least; at_most = r.at_most })
+text-rtcp octets p is r =
+    subst IsRtcp (sym is.spelled) (record { has_type = omega arith; at_least = r.at_least; at_most = r.at_most })
 
 -- and back
 pub rtcp-text : (octets : List ℕ) (p : Packet) → IsPacket octets p → IsRtcp octets → IsRtcp (packet_text p)
 rtcp-text octets p is rtcp =
-    let r : IsRtcp (spelled_with is.filler p) = subst IsRtcp is.spelled rtcp in
+    let r : IsRtcp (octets_with is.filler p) = subst IsRtcp is.spelled rtcp in
     record { has_type = omega arith; at_least = r.at_least; at_most = r.at_most }
 
 -- the first of two lists of octets
 first-octets : (xs ys : List ℕ) → AreOctets (xs ++ ys) → AreOctets xs
-first-octets xs ys all = subst AreOctets (take_at xs ys (length xs) refl) (All-take (λ octet. octet < 256) (length xs) (xs ++ ys) all)
+first-octets xs ys all =
+    subst AreOctets (take_at xs ys (length xs) refl) (All-take (λ octet. octet < 256) (length xs) (xs ++ ys) all)
 
 -- the first octet of a packet without padding
-first-below : (extended : Bool) (sources : ℕ) → sources ≤ 60 → 128 + 0 + (if extended then 16 else 0) + sources / 4 < 256
+first-below : (extended : Bool) (sources : ℕ) → sources ≤ 60 →
+    128 + 0 + (if extended then 16 else 0) + sources / 4 < 256
 first-below true sources few = omega arith
 first-below false sources few = omega arith
 
 -- a text's octets are below 256
 pub text-octets : (octets : List ℕ) (p : Packet) → IsPacket octets p → AreOctets octets → AreOctets (packet_text p)
 text-octets octets p is below =
-    let whole : AreOctets (spelled_with is.filler p) = subst AreOctets is.spelled below in
-    let body : AreOctets (fixed_header p ++ p.csrc ++ extension_octets p.extension ++ p.payload) = first-octets (fixed_header p ++ p.csrc ++ extension_octets p.extension ++ p.payload) (padding_octets is.filler p.padding) whole in
-    let rest : List ℕ = marker_and_type p.marker p.pt ∷ to_be_bytes w16 p.seq ++ to_be_bytes w32 p.ts ++ to_be_bytes w32 p.ssrc ++ p.csrc ++ extension_octets p.extension ++ p.payload in
+    let whole : AreOctets (octets_with is.filler p) = subst AreOctets is.spelled below in
+    let body : AreOctets (fixed_header p ++ p.csrc ++ extension_octets p.extension ++ p.payload) =
+        first-octets (fixed_header p ++ p.csrc ++ extension_octets p.extension ++ p.payload)
+        (padding_octets is.filler p.padding) whole in
+    let rest : List ℕ = marker_and_type p.marker p.pt ∷ to_be_bytes w16 p.seq ++ to_be_bytes w32 p.ts
+        ++ to_be_bytes w32 p.ssrc ++ p.csrc ++ extension_octets p.extension ++ p.payload in
     let first : ℕ = first_octet (without_padding p) in
     All-append (λ octet. octet < 256) (first ∷ rest) []
-    (All-cons (λ octet. octet < 256) first rest (first-below (is_some p.extension) (length p.csrc) is.fits.csrc.fit) (All-tail (λ octet. octet < 256) (first_octet p) rest body))
+    (All-cons (λ octet. octet < 256) first rest (first-below (is_some p.extension) (length p.csrc) is.fits.csrc.fit)
+    (All-tail (λ octet. octet < 256) (first_octet p) rest body))
     (All-nil (λ octet. octet < 256))
 
 -- what a text is

@@ -5,21 +5,24 @@ use Rattle.std.proofs.lemmas.Bool.{true≢false}
 use Rattle.vrx_num.specs.declared.limits.TheConstants.{WINDOW}
 use Rattle.vrx_window.specs.Content.{Content, Media, Fec, Empty}
 use Rattle.vrx_window.specs.Window.{at, is_available}
-use Rattle.vrx_frames.specs.Front.{front_after, is_no_media, reached}
+use Rattle.vrx_frames.specs.Front.{front_after, is_no_media, reach_from}
 use Rattle.vrx_frames.specs.Run.{Packets, ends_frame}
 use Rattle.vrx_core.proofs.relation.RunMoveLemmas.{first_or_later}
 
 -- what is no media is available, and ends a frame
-pub over-available : (n : ℕ) (packets : Packets) → IsSomeAnd (at n packets) (λ content. is_no_media content ≡ true) → is_available n packets ≡ true
+pub over-available : (n : ℕ) (packets : Packets) → IsSomeAnd (at n packets) (λ content. is_no_media content ≡ true) →
+    is_available n packets ≡ true
 over-available n packets h = by (at n packets) h where
   by : (o : Option Content) → IsSomeAnd o (λ content. is_no_media content ≡ true) → is_some o ≡ true
   by None g = absurd g
   by (Some content) g = refl
 
 -- and ends a frame
-pub over-ends : (n : ℕ) (packets : Packets) → IsSomeAnd (at n packets) (λ content. is_no_media content ≡ true) → option_map_or ends_frame (at n packets) false ≡ true
+pub over-ends : (n : ℕ) (packets : Packets) → IsSomeAnd (at n packets) (λ content. is_no_media content ≡ true) →
+    option_map_or ends_frame (at n packets) false ≡ true
 over-ends n packets h = by (at n packets) h where
-  by : (o : Option Content) → IsSomeAnd o (λ content. is_no_media content ≡ true) → option_map_or ends_frame o false ≡ true
+  by : (o : Option Content) → IsSomeAnd o (λ content. is_no_media content ≡ true) →
+      option_map_or ends_frame o false ≡ true
   by None g = absurd g
   by (Some (Media text)) g = absurd (true≢false (sym g))
   by (Some (Fec payload)) g = refl
@@ -31,22 +34,30 @@ module _ (packets : Packets) where
   Over from to = (m : ℕ) → from < m → m ≤ to → IsSomeAnd (at m packets) (λ content. is_no_media content ≡ true)
 
   -- what is reached from a number isn't below it, and all between is available and no media
-  pub reached-over : (more from : ℕ) → (from ≤ reached more from packets) × Over from (reached more from packets)
-  reached-over zero from = (omega arith, λ m less upto. absurd (omega arith))
-  reached-over (suc more) from = either (at (from + 1) packets) refl (reached-over more (from + 1)) where
-    over-next : (c : Content) → at (from + 1) packets ≡ Some c → is_no_media c ≡ true → Over (from + 1) (reached more (from + 1) packets) → Over from (reached more (from + 1) packets)
+  pub reach_from-over : (more from : ℕ) →
+      (from ≤ reach_from more from packets) × Over from (reach_from more from packets)
+  reach_from-over zero from = (omega arith, λ m less upto. absurd (omega arith))
+  reach_from-over (suc more) from = either (at (from + 1) packets) refl (reach_from-over more (from + 1)) where
+    over-next : (c : Content) → at (from + 1) packets ≡ Some c → is_no_media c ≡ true →
+        Over (from + 1) (reach_from more (from + 1) packets) → Over from (reach_from more (from + 1) packets)
     over-next c is none rest m less upto = elim (first_or_later (from + 1) m (omega arith)) [
-      | inl same ↦ subst (λ k. IsSomeAnd (at k packets) (λ content. is_no_media content ≡ true)) same (subst (λ (o : Option Content). IsSomeAnd o (λ content. is_no_media content ≡ true)) (sym is) none)
+      | inl same ↦ subst (λ k. IsSomeAnd (at k packets) (λ content. is_no_media content ≡ true)) same
+          (subst (λ (o : Option Content). IsSomeAnd o (λ content. is_no_media content ≡ true)) (sym is) none)
       | inr later ↦ rest m (omega arith) upto
     ]
 
-    go : (c : Content) → at (from + 1) packets ≡ Some c → (b : Bool) → is_no_media c ≡ b → (from + 1 ≤ reached more (from + 1) packets) × Over (from + 1) (reached more (from + 1) packets)
-        → (from ≤ cond b (reached more (from + 1) packets) from) × Over from (cond b (reached more (from + 1) packets) from)
-    go c is true none rest = (let up : from + 1 ≤ reached more (from + 1) packets = rest.0 in omega arith, over-next c is none rest.1)
+    go : (c : Content) → at (from + 1) packets ≡ Some c → (b : Bool) → is_no_media c ≡ b →
+        (from + 1 ≤ reach_from more (from + 1) packets) × Over (from + 1) (reach_from more (from + 1) packets)
+        → (from ≤ cond b (reach_from more (from + 1) packets) from)
+        × Over from (cond b (reach_from more (from + 1) packets) from)
+    go c is true none rest =
+        (let up : from + 1 ≤ reach_from more (from + 1) packets = rest.0 in omega arith, over-next c is none rest.1)
     go c is false none rest = (omega arith, λ m less upto. absurd (omega arith))
 
-    either : (o : Option Content) → at (from + 1) packets ≡ o → (from + 1 ≤ reached more (from + 1) packets) × Over (from + 1) (reached more (from + 1) packets)
-        → (from ≤ cond (option_map_or is_no_media o false) (reached more (from + 1) packets) from) × Over from (cond (option_map_or is_no_media o false) (reached more (from + 1) packets) from)
+    either : (o : Option Content) → at (from + 1) packets ≡ o →
+        (from + 1 ≤ reach_from more (from + 1) packets) × Over (from + 1) (reach_from more (from + 1) packets)
+        → (from ≤ cond (option_map_or is_no_media o false) (reach_from more (from + 1) packets) from)
+        × Over from (cond (option_map_or is_no_media o false) (reach_from more (from + 1) packets) from)
     either None is rest = (omega arith, λ m less upto. absurd (omega arith))
     either (Some c) is rest = go c is (is_no_media c) refl rest
 
@@ -58,8 +69,9 @@ module _ (packets : Packets) where
     pub over : Over from front
 
   -- from a number on
-  goes-on : (from : ℕ) → GoesOn from (Some (reached WINDOW from packets))
-  goes-on from = let p = reached-over WINDOW from in record { front = reached WINDOW from packets; front_is = refl; upto = p.0; over = p.1 }
+  goes-on : (from : ℕ) → GoesOn from (Some (reach_from WINDOW from packets))
+  goes-on from = let p = reach_from-over WINDOW from in
+      record { front = reach_from WINDOW from packets; front_is = refl; upto = p.0; over = p.1 }
 
   -- before the first frame is pulled there is no front
   pub front-none : (before : Option ℕ) → front_after before None packets ≡ None
@@ -74,7 +86,8 @@ module _ (packets : Packets) where
   front-next front last = goes-on (max front last)
 
 -- the front went on if it is the same, or its number ends a frame
-pub goes-ends : (packets : Packets) (from : ℕ) (after : Option ℕ) → (g : GoesOn packets from after) → (from ≡ g.front) ⊎ (option_map_or ends_frame (at g.front packets) false ≡ true)
+pub goes-ends : (packets : Packets) (from : ℕ) (after : Option ℕ) → (g : GoesOn packets from after) →
+    (from ≡ g.front) ⊎ (option_map_or ends_frame (at g.front packets) false ≡ true)
 goes-ends packets from after g = elim (first_or_later from g.front g.upto) [
   | inl same ↦ inl same
   | inr later ↦ inr (over-ends g.front packets (g.over g.front (omega arith) (omega arith)))

@@ -4,7 +4,7 @@ use Rattle.std.specs.List.{AllByRecursion, filter, find}
 use Rattle.std.specs.Option.{option_map}
 use Rattle.std.proofs.lemmas.Bool.{le-ltb, true≢false}
 use Rattle.vrx_frames.specs.Completed.{IsUpTo}
-use Rattle.vrx_frames.specs.Run.{Run, is_passed as is_passed_run, stands, told_of}
+use Rattle.vrx_frames.specs.Run.{Run, is_passed as is_passed_run, stands, summary_of}
 use Rattle.vrx_core.specs.machine.Deliverable.{answer, is_deliverable as is_deliverable_run, least, lesser}
 use Rattle.vrx_core.specs.relation.Frames.{is_deliverable, is_passed, next_of}
 use Rattle.vrx_core.proofs.relation.ListLemmas.{Rises, all-in, all-of, find-map, find-same, rises-filter}
@@ -16,39 +16,54 @@ least-first : (run : Run) (runs : List Run) → Rises first_of (run ∷ runs) �
 least-first run [] rises = refl
 least-first run (next ∷ runs) rises =
     let above : run.first < next.first = rises.0.0 in
-    ap (λ o. Some (lesser run o)) (least-first next runs rises.1) ∙ ap (λ b. Some (cond b next run)) (le-ltb next.first run.first (omega arith))
+    ap (λ o. Some (lesser run o)) (least-first next runs rises.1)
+    ∙ ap (λ b. Some (cond b next run)) (le-ltb next.first run.first (omega arith))
 
 -- the least of those that pass a test is the first that does
-pub least-find : (test : Run → Bool) (runs : List Run) → Rises first_of runs → least (filter test runs) ≡ find test runs
+pub least-find : (test : Run → Bool) (runs : List Run) → Rises first_of runs →
+    least (filter test runs) ≡ find test runs
 least-find test [] rises = refl
 least-find test (run ∷ runs) rises = either (test run) refl (least-find test runs rises.1) where
-  either : (b : Bool) → test run ≡ b → least (filter test runs) ≡ find test runs → least (cond b (run ∷ filter test runs) (filter test runs)) ≡ cond b (Some run) (find test runs)
-  either true pass rest = least-first run (filter test runs) (subst (λ c. Rises first_of (cond c (run ∷ filter test runs) (filter test runs))) pass (rises-filter first_of test (run ∷ runs) rises))
+  either : (b : Bool) → test run ≡ b → least (filter test runs) ≡ find test runs →
+      least (cond b (run ∷ filter test runs) (filter test runs)) ≡ cond b (Some run) (find test runs)
+  either true pass rest = least-first run (filter test runs)
+      (subst (λ c. Rises first_of (cond c (run ∷ filter test runs) (filter test runs))) pass
+      (rises-filter first_of test (run ∷ runs) rises))
   either false fail rest = rest
 
 -- of a run that stands, the tests of both sides are one
-same-test : (last front : Option ℕ) (run : Run) → is_some front ≡ is_some last → stands last run ≡ true → is_deliverable_run last front run ≡ is_deliverable front (told_of run)
-same-test last front run both s = ap (λ b. b && (run.key || (is_none run.layers && (is_some last && is_passed_run front (run.first - 1))))) s ∙ ap (λ b. run.key || (is_none run.layers && b)) (evident last front both) where
-  evident : (last front : Option ℕ) → is_some front ≡ is_some last → (is_some last && is_passed_run front (run.first - 1)) ≡ is_passed front (run.first - 1)
+same-test : (last front : Option ℕ) (run : Run) → is_some front ≡ is_some last → stands last run ≡ true →
+    is_deliverable_run last front run ≡ is_deliverable front (summary_of run)
+same-test last front run both s =
+    ap (λ b. b && (run.key || (is_none run.layers && (is_some last && is_passed_run front (run.first - 1))))) s
+    ∙ ap (λ b. run.key || (is_none run.layers && b)) (evident last front both) where
+  evident : (last front : Option ℕ) → is_some front ≡ is_some last →
+      (is_some last && is_passed_run front (run.first - 1)) ≡ is_passed front (run.first - 1)
   evident None None h = refl
   evident None (Some f) h = absurd (true≢false h)
   evident (Some l) None h = absurd (true≢false (sym h))
   evident (Some l) (Some f) h = refl
 
 -- a run beyond the front is beyond the last number pulled
-pub stands-last : (last front : Option ℕ) (run : Run) → IsUpTo last front → stands front run ≡ true → stands last run ≡ true
+pub stands-last : (last front : Option ℕ) (run : Run) → IsUpTo last front → stands front run ≡ true →
+    stands last run ≡ true
 stands-last None front run up s = refl
 stands-last (Some l) None run up s = absurd up
-stands-last (Some l) (Some f) run up s = let less : f < run.first = stands-beyond f run s in beyond-stands l run (omega (arith, up))
+stands-last (Some l) (Some f) run up s = let less : f < run.first =
+    stands-beyond f run s in beyond-stands l run (omega (arith, up))
 
 -- the machine's answer is the first run in the order that is deliverable
-pub answer-find : (last front : Option ℕ) (runs : List Run) → Rises first_of runs → is_some front ≡ is_some last → AllByRecursion (λ run. stands last run ≡ true) runs
-    → answer last front runs ≡ find (λ run. is_deliverable front (told_of run)) runs
+pub answer-find : (last front : Option ℕ) (runs : List Run) → Rises first_of runs → is_some front ≡ is_some last →
+    AllByRecursion (λ run. stands last run ≡ true) runs
+    → answer last front runs ≡ find (λ run. is_deliverable front (summary_of run)) runs
 answer-find last front runs rises both all = least-find (is_deliverable_run last front) runs rises
-    ∙ find-same (is_deliverable_run last front) (λ run. is_deliverable front (told_of run)) runs
-    (all-of (λ run. is_deliverable_run last front run ≡ is_deliverable front (told_of run)) runs (λ run there. same-test last front run both (all-in (λ r. stands last r ≡ true) runs run all there)))
+    ∙ find-same (is_deliverable_run last front) (λ run. is_deliverable front (summary_of run)) runs
+    (all-of (λ run. is_deliverable_run last front run ≡ is_deliverable front (summary_of run)) runs
+    (λ run there. same-test last front run both (all-in (λ r. stands last r ≡ true) runs run all there)))
 
 -- and it is told as the next of those told
-pub answer-told : (last front : Option ℕ) (runs : List Run) → Rises first_of runs → is_some front ≡ is_some last → AllByRecursion (λ run. stands last run ≡ true) runs
-    → next_of front (map told_of runs) ≡ option_map told_of (answer last front runs)
-answer-told last front runs rises both all = find-map told_of (is_deliverable front) runs ∙ sym (ap (option_map told_of) (answer-find last front runs rises both all))
+pub answer-told : (last front : Option ℕ) (runs : List Run) → Rises first_of runs → is_some front ≡ is_some last →
+    AllByRecursion (λ run. stands last run ≡ true) runs
+    → next_of front (map summary_of runs) ≡ option_map summary_of (answer last front runs)
+answer-told last front runs rises both all = find-map summary_of (is_deliverable front) runs
+    ∙ sym (ap (option_map summary_of) (answer-find last front runs rises both all))

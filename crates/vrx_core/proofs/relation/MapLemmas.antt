@@ -54,7 +54,8 @@ module _ {X : Type 0} where
   at_put-other q n x es other = at_put q n x es ∙ ap (λ b. cond b (Some x) (at q es)) (ne_eqb q n other)
 
   -- what stands under a number if only some numbers are left
-  pub at_where : (p : ℕ → Bool) (q : ℕ) (es : List (ℕ × X)) → at q (where_key nat_cmp p es) ≡ cond (p q) (at q es) None
+  pub at_where : (p : ℕ → Bool) (q : ℕ) (es : List (ℕ × X)) →
+      at q (where_key nat_cmp p es) ≡ cond (p q) (at q es) None
   at_where p q es = find-where_key nat_cmp p q (λ x e. ap p (sym (nat_cmp-IsAntisymmetric q x e))) es
 
   -- under a number that is left
@@ -66,25 +67,29 @@ module _ {X : Type 0} where
   at_where-no p q es fails = at_where p q es ∙ ap (λ b. cond b (at q es) None) fails
 
   -- what is found if only some numbers are left
-  pub at_where-from : (p : ℕ → Bool) (q : ℕ) (es : List (ℕ × X)) (x : X) → at q (where_key nat_cmp p es) ≡ Some x → (p q ≡ true) × (at q es ≡ Some x)
+  pub at_where-from : (p : ℕ → Bool) (q : ℕ) (es : List (ℕ × X)) (x : X) → at q (where_key nat_cmp p es) ≡ Some x →
+      (p q ≡ true) × (at q es ≡ Some x)
   at_where-from p q es x is = either (p q) (at q es) (sym (at_where p q es) ∙ is) where
     either : (b : Bool) (o : Option X) → cond b o None ≡ Some x → (b ≡ true) × (o ≡ Some x)
     either true o h = (refl, h)
     either false o h = absurd (true≢false (sym (ap is_some h)))
 
   -- maps stay in order
-  pub sorted_put : (n : ℕ) (x : X) (es : List (ℕ × X)) → is_sorted nat_cmp es ≡ true → is_sorted nat_cmp (put nat_cmp n x es) ≡ true
+  pub sorted_put : (n : ℕ) (x : X) (es : List (ℕ × X)) → is_sorted nat_cmp es ≡ true →
+      is_sorted nat_cmp (put nat_cmp n x es) ≡ true
   sorted_put n x es h = T-true _ (is_sorted-put nat_cmp nat_cmp_total n x es (true-T _ h))
 
   -- also if some numbers are left out
-  pub sorted_where : (p : ℕ → Bool) (es : List (ℕ × X)) → is_sorted nat_cmp es ≡ true → is_sorted nat_cmp (where_key nat_cmp p es) ≡ true
+  pub sorted_where : (p : ℕ → Bool) (es : List (ℕ × X)) → is_sorted nat_cmp es ≡ true →
+      is_sorted nat_cmp (where_key nat_cmp p es) ≡ true
   sorted_where p es h = T-true _ (is_sorted-where_key nat_cmp p es (true-T _ h))
 
   -- a number of an entry is available
   pub entry-available : (es : List (ℕ × X)) (e : ℕ × X) → Contains es e → is_available e.0 es ≡ true
   entry-available [] e c = absurd (Contains-empty e c)
   entry-available (d ∷ es) e c = elim (Contains-either d es e c) [
-    | inl same ↦ subst (λ (f : ℕ × X). is_available f.0 (d ∷ es) ≡ true) same (ap (λ b. is_some (cond b (Some d.1) (find nat_cmp d.0 es))) (key_same d.0))
+    | inl same ↦ subst (λ (f : ℕ × X). is_available f.0 (d ∷ es) ≡ true) same
+        (ap (λ b. is_some (cond b (Some d.1) (find nat_cmp d.0 es))) (key_same d.0))
     | inr later ↦ either (eq_by_cmp nat_cmp e.0 d.0) (entry-available es e later)
   ] where
     either : (b : Bool) → is_available e.0 es ≡ true → is_some (cond b (Some d.1) (find nat_cmp e.0 es)) ≡ true
@@ -97,7 +102,9 @@ module _ {X : Type 0} where
   among-numbers (e ∷ es) n =
       let same : eq_by_cmp nat_cmp n e.0 ≡ (n == e.0) = grind (arith, common_steps) in
       ap (λ b. is_some (cond b (Some e.1) (find nat_cmp n es))) same
-      ∙ elim (n == e.0) as (λ b. is_some (cond b (Some e.1) (find nat_cmp n es)) ≡ (b || list_any (λ k. n == k) (map (λ e. e.0) es))) [ true ↦ refl | false ↦ among-numbers es n ]
+      ∙ elim (n == e.0) as (λ b.
+      is_some (cond b (Some e.1) (find nat_cmp n es))
+      ≡ (b || list_any (λ k. n == k) (map (λ e. e.0) es))) [ true ↦ refl | false ↦ among-numbers es n ]
 
 module _ {X Y : Type 0} (f : X → Y) where
   -- the map with each value changed
@@ -107,7 +114,9 @@ module _ {X Y : Type 0} (f : X → Y) where
   -- what stands under a number of a map whose values change by a function
   pub at_map : (q : ℕ) (es : List (ℕ × X)) → at q (values es) ≡ option_map f (at q es)
   at_map q [] = refl
-  at_map q (e ∷ es) = elim (eq_by_cmp nat_cmp q e.0) as (λ b. cond b (Some (f e.1)) (at q (values es)) ≡ option_map f (cond b (Some e.1) (at q es))) [ true ↦ refl | false ↦ at_map q es ]
+  at_map q (e ∷ es) = elim (eq_by_cmp nat_cmp q e.0) as (λ b.
+      cond b (Some (f e.1)) (at q (values es)) ≡ option_map f
+      (cond b (Some e.1) (at q es))) [ true ↦ refl | false ↦ at_map q es ]
 
   -- the same numbers are available
   pub available_map : (q : ℕ) (es : List (ℕ × X)) → is_available q (values es) ≡ is_available q es
@@ -119,16 +128,22 @@ module _ {X Y : Type 0} (f : X → Y) where
   -- and of one in which something was put, or some numbers are left
   pub map_put : (n : ℕ) (x : X) (es : List (ℕ × X)) → values (put nat_cmp n x es) ≡ put nat_cmp n (f x) (values es)
   map_put n x [] = refl
-  map_put n x (e ∷ es) = elim (nat_cmp n e.0) as (λ o. values (by_order o ((n, x) ∷ e ∷ es) ((e.0, x) ∷ es) (e ∷ put nat_cmp n x es)) ≡ by_order o ((n, f x) ∷ (e.0, f e.1) ∷ values es) ((e.0, f x) ∷ values es) ((e.0, f e.1) ∷ put nat_cmp n (f x) (values es))) [
+  map_put n x (e ∷ es) = elim (nat_cmp n e.0) as (λ o.
+      values (by_order o ((n, x) ∷ e ∷ es) ((e.0, x) ∷ es) (e ∷ put nat_cmp n x es)) ≡ by_order o
+      ((n, f x) ∷ (e.0, f e.1) ∷ values es) ((e.0, f x) ∷ values es)
+      ((e.0, f e.1) ∷ put nat_cmp n (f x) (values es))) [
     | Less ↦ refl
     | Equal ↦ refl
     | Greater ↦ ap (λ (ds : List (ℕ × Y)). (e.0, f e.1) ∷ ds) (map_put n x es)
   ]
 
   -- and of one from which some numbers are left out
-  pub map_where : (p : ℕ → Bool) (es : List (ℕ × X)) → values (where_key nat_cmp p es) ≡ where_key nat_cmp p (values es)
+  pub map_where : (p : ℕ → Bool) (es : List (ℕ × X)) →
+      values (where_key nat_cmp p es) ≡ where_key nat_cmp p (values es)
   map_where p [] = refl
-  map_where p (e ∷ es) = elim (p e.0) as (λ b. values (cond b (e ∷ where_key nat_cmp p es) (where_key nat_cmp p es)) ≡ cond b ((e.0, f e.1) ∷ where_key nat_cmp p (values es)) (where_key nat_cmp p (values es))) [
+  map_where p (e ∷ es) = elim (p e.0) as (λ b.
+      values (cond b (e ∷ where_key nat_cmp p es) (where_key nat_cmp p es)) ≡ cond b
+      ((e.0, f e.1) ∷ where_key nat_cmp p (values es)) (where_key nat_cmp p (values es))) [
     | true ↦ ap (λ (ds : List (ℕ × Y)). (e.0, f e.1) ∷ ds) (map_where p es)
     | false ↦ map_where p es
   ]
@@ -141,7 +156,8 @@ module _ {X Y : Type 0} (f : X → Y) where
   -- a map stays in order
   pub sorted_map : (es : List (ℕ × X)) → is_sorted nat_cmp (values es) ≡ is_sorted nat_cmp es
   sorted_map [] = refl
-  sorted_map (e ∷ es) = ap (λ b. b && is_sorted nat_cmp (values es)) (below_map e.0 es) ∙ ap (λ b. below_all nat_cmp e.0 es && b) (sorted_map es)
+  sorted_map (e ∷ es) = ap (λ b. b && is_sorted nat_cmp (values es)) (below_map e.0 es)
+      ∙ ap (λ b. below_all nat_cmp e.0 es && b) (sorted_map es)
 
   -- the numbers are the same
   pub numbers_map : (es : List (ℕ × X)) → map (λ (e : ℕ × Y). e.0) (values es) ≡ map (λ (e : ℕ × X). e.0) es

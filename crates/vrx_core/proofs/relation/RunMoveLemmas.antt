@@ -13,21 +13,27 @@ use Rattle.vrx_window.specs.Content.{Content, Media}
 use Rattle.vrx_window.specs.Window.{at, is_available}
 use Rattle.vrx_frames.specs.Front.{is_no_media}
 use Rattle.vrx_frames.specs.IsRun.{ArePieces, IsPiece, IsRunBy, RunsAre, RunsRise}
-use Rattle.vrx_frames.specs.Run.{Packets, Piece, Run, begins, ends_frame, is_passed, is_start, runs_by, stands, stands_behind}
+use Rattle.vrx_frames.specs.Run.{Packets, Piece, Run, begins, ends_frame, is_passed, is_start, runs_by, stands, stands_after_end}
 use Rattle.vrx_frames.specs.Completed.{IsUpTo}
 use Rattle.vrx_core.proofs.relation.ListLemmas.{Rises, filter-from, filter-to, rises-filter, rises-from, same-lists}
 
 -- a number is the first, or later
 pub first_or_later : (n m : ℕ) → n ≤ m → (n ≡ m) ⊎ (n + 1 ≤ m)
-first_or_later n m upto = elim (cases_order n m) [ inl same ↦ inl same | inr other ↦ elim other [ inl less ↦ inr (omega arith) | inr more ↦ absurd (omega arith) ] ]
+first_or_later n m upto =
+    elim (cases_order n m) [ inl same ↦ inl same | inr
+    other ↦ elim other [ inl less ↦ inr (omega arith) | inr more ↦ absurd (omega arith) ] ]
 
 module _ (codec : Meaning) where
   -- if the same stands under a number, its piece is the same
-  pub piece-moves : (packets packets' : Packets) (n : ℕ) (piece : Piece) → at n packets ≡ at n packets' → IsPiece codec packets n piece → IsPiece codec packets' n piece
-  piece-moves packets packets' n piece same is = record { number = is.number; text = is.text; media = sym same ∙ is.media; reads = is.reads; part_reads = is.part_reads }
+  pub piece-moves : (packets packets' : Packets) (n : ℕ) (piece : Piece) → at n packets ≡ at n packets' →
+      IsPiece codec packets n piece → IsPiece codec packets' n piece
+  piece-moves packets packets' n piece same is =
+      record {
+      number = is.number; text = is.text; media = sym same ∙ is.media; reads = is.reads; part_reads = is.part_reads }
 
   -- a piece is available
-  pub piece-available : (packets : Packets) (n : ℕ) (piece : Piece) → IsPiece codec packets n piece → is_available n packets ≡ true
+  pub piece-available : (packets : Packets) (n : ℕ) (piece : Piece) → IsPiece codec packets n piece →
+      is_available n packets ≡ true
   piece-available packets n piece is = ap is_some is.media
 
   -- the piece of a number among pieces of which a fact holds
@@ -37,7 +43,8 @@ module _ (codec : Meaning) where
     pub holds : P piece
 
   -- among the pieces of a stretch
-  piece-among : (packets : Packets) (P : Piece → Type 0) (n m : ℕ) (ps : List Piece) → ArePieces codec packets n ps → AllByRecursion P ps → n ≤ m → m < n + length ps → Held packets P m
+  piece-among : (packets : Packets) (P : Piece → Type 0) (n m : ℕ) (ps : List Piece) → ArePieces codec packets n ps →
+      AllByRecursion P ps → n ≤ m → m < n + length ps → Held packets P m
   piece-among packets P n m [] are all from below = absurd (omega arith)
   piece-among packets P n m (p ∷ ps) are all from below = elim (first_or_later n m from) [
     | inl same ↦ record { piece = p; is = subst (λ k. IsPiece codec packets k p) same are.0; holds = all.0 }
@@ -45,25 +52,33 @@ module _ (codec : Meaning) where
   ]
 
   -- each number of a run has its piece: the last has the marker
-  pub piece-in : (place : ℕ → Option Place) (starts : Piece → Bool) (packets : Packets) (run : Run) (n : ℕ) → IsRunBy codec place starts packets run → run.first ≤ n → n ≤ run.last
+  pub piece-in : (place : ℕ → Option Place) (starts : Piece → Bool) (packets : Packets) (run : Run) (n : ℕ) →
+      IsRunBy codec place starts packets run → run.first ≤ n → n ≤ run.last
       → Held packets (λ p. (p.packet.marker ≡ true) ↔ (p.number ≡ run.last)) n
   piece-in place starts packets run n r from upto =
       let size : run.first + length r.pieces ≡ run.last + 1 = r.to_last in
-      piece-among packets (λ p. (p.packet.marker ≡ true) ↔ (p.number ≡ run.last)) run.first n r.pieces r.from_first (recursion_from_All _ r.pieces r.marker) from (omega arith)
+      piece-among packets (λ p. (p.packet.marker ≡ true) ↔ (p.number ≡ run.last)) run.first n r.pieces r.from_first
+      (recursion_from_All _ r.pieces r.marker) from (omega arith)
 
   -- each number of a run is available, and media
-  pub run-available : (place : ℕ → Option Place) (starts : Piece → Bool) (packets : Packets) (run : Run) (n : ℕ) → IsRunBy codec place starts packets run → run.first ≤ n → n ≤ run.last
+  pub run-available : (place : ℕ → Option Place) (starts : Piece → Bool) (packets : Packets) (run : Run) (n : ℕ) →
+      IsRunBy codec place starts packets run → run.first ≤ n → n ≤ run.last
       → is_available n packets ≡ true
-  run-available place starts packets run n r from upto = let p = piece-in place starts packets run n r from upto in piece-available packets n p.piece p.is
+  run-available place starts packets run n r from upto = let p =
+      piece-in place starts packets run n r from upto in piece-available packets n p.piece p.is
 
   -- the last number of a run ends a frame
-  pub last-ends : (place : ℕ → Option Place) (starts : Piece → Bool) (packets : Packets) (run : Run) → IsRunBy codec place starts packets run → option_map_or ends_frame (at run.last packets) false ≡ true
+  pub last-ends : (place : ℕ → Option Place) (starts : Piece → Bool) (packets : Packets) (run : Run) →
+      IsRunBy codec place starts packets run → option_map_or ends_frame (at run.last packets) false ≡ true
   last-ends place starts packets run r =
-      let p : Held packets (λ p. (p.packet.marker ≡ true) ↔ (p.number ≡ run.last)) run.last = piece-in place starts packets run run.last r r.not_empty (omega arith) in
-      ap (λ o. option_map_or ends_frame o false) p.is.media ∙ ap (λ o. option_map_or (λ packet. packet.marker) o false) p.is.reads ∙ p.holds.1 p.is.number
+      let p : Held packets (λ p. (p.packet.marker ≡ true) ↔ (p.number ≡ run.last)) run.last =
+          piece-in place starts packets run run.last r r.not_empty (omega arith) in
+      ap (λ o. option_map_or ends_frame o false) p.is.media
+      ∙ ap (λ o. option_map_or (λ packet. packet.marker) o false) p.is.reads ∙ p.holds.1 p.is.number
 
   -- what is media isn't no media
-  pub piece-media : (packets : Packets) (n : ℕ) (piece : Piece) (content : Content) → IsPiece codec packets n piece → at n packets ≡ Some content → is_no_media content ≡ true → ⊥
+  pub piece-media : (packets : Packets) (n : ℕ) (piece : Piece) (content : Content) → IsPiece codec packets n piece →
+      at n packets ≡ Some content → is_no_media content ≡ true → ⊥
   piece-media packets n piece content is there none =
       let e : Some (Media is.text) ≡ Some content = sym is.media ∙ there in
       let same : Media is.text ≡ content = cc in
@@ -72,25 +87,30 @@ module _ (codec : Meaning) where
   module _ (place : ℕ → Option Place) (starts starts' : Piece → Bool) (packets packets' : Packets) (run : Run) where
     -- the pieces of a run, and their starts, elsewhere
     abbrev Moves : Type 0
-    Moves = (n : ℕ) (piece : Piece) → run.first ≤ n → n ≤ run.last → IsPiece codec packets n piece → IsPiece codec packets' n piece × (starts piece ≡ starts' piece)
+    Moves = (n : ℕ) (piece : Piece) → run.first ≤ n → n ≤ run.last → IsPiece codec packets n piece →
+        IsPiece codec packets' n piece × (starts piece ≡ starts' piece)
 
     -- a piece is a start exactly if it is the first
     abbrev Starts : (Piece → Bool) → Piece → Type 0
     Starts test piece = (test piece ≡ true) ↔ (piece.number ≡ run.first)
 
     -- pieces and starts, from a number on
-    moved : (n : ℕ) (ps : List Piece) → Moves → run.first ≤ n → n + length ps ≡ run.last + 1 → ArePieces codec packets n ps → AllByRecursion (Starts starts) ps
+    moved : (n : ℕ) (ps : List Piece) → Moves → run.first ≤ n → n + length ps ≡ run.last + 1 →
+        ArePieces codec packets n ps → AllByRecursion (Starts starts) ps
         → ArePieces codec packets' n ps × AllByRecursion (Starts starts') ps
     moved n [] moves from size are all = (tt, tt)
     moved n (p ∷ ps) moves from size are all =
         let here : IsPiece codec packets' n p × (starts p ≡ starts' p) = moves n p from (omega arith) are.0 in
-        let rest : ArePieces codec packets' (n + 1) ps × AllByRecursion (Starts starts') ps = moved (n + 1) ps moves (omega arith) (omega arith) are.1 all.1 in
+        let rest : ArePieces codec packets' (n + 1) ps × AllByRecursion (Starts starts') ps =
+            moved (n + 1) ps moves (omega arith) (omega arith) are.1 all.1 in
         ((here.0, rest.0), ((λ s. all.0.0 (here.1 ∙ s), λ e. sym here.1 ∙ all.0.1 e), rest.1))
 
     -- a run whose pieces stay, and of whose pieces each is a start as before, is a run there too
     pub run-moves : IsRunBy codec place starts packets run → Moves → IsRunBy codec place starts' packets' run
     run-moves r moves =
-        let there : ArePieces codec packets' run.first r.pieces × AllByRecursion (Starts starts') r.pieces = moved run.first r.pieces moves (omega arith) r.to_last r.from_first (recursion_from_All _ r.pieces r.start) in
+        let there : ArePieces codec packets' run.first r.pieces × AllByRecursion (Starts starts') r.pieces =
+            moved run.first r.pieces moves (omega arith) r.to_last r.from_first
+            (recursion_from_All _ r.pieces r.start) in
         record {
           pieces = r.pieces;
           from_first = there.0;
@@ -108,37 +128,56 @@ module _ (codec : Meaning) where
 abbrev pub standing-by : Meaning → (ℕ → Option Place) → Option ℕ → (Piece → Bool) → Packets → List Run
 standing-by codec place passed starts packets = filter (stands passed) (runs_by codec place starts packets)
 
-module _ (are : RunsAre) (codec : Meaning) (place : ℕ → Option Place) (passed : Option ℕ) (starts : Piece → Bool) (packets : Packets) where
+module _ (are : RunsAre) (codec : Meaning) (place : ℕ → Option Place) (passed : Option ℕ) (starts : Piece → Bool)
+    (packets : Packets) where
   -- a run that stands is one by its conditions, and lies beyond the number
-  pub standing-from : (run : Run) → Contains (standing-by codec place passed starts packets) run → IsRunBy codec place starts packets run × (stands passed run ≡ true)
+  pub standing-from : (run : Run) → Contains (standing-by codec place passed starts packets) run →
+      IsRunBy codec place starts packets run × (stands passed run ≡ true)
   standing-from run there =
-      let p : Contains (runs_by codec place starts packets) run × (stands passed run ≡ true) = filter-from (stands passed) (runs_by codec place starts packets) run there in
+      let p : Contains (runs_by codec place starts packets) run × (stands passed run ≡ true) =
+          filter-from (stands passed) (runs_by codec place starts packets) run there in
       ((are codec place starts packets run).0 p.0, p.1)
 
   -- and back
-  pub standing-to : (run : Run) → IsRunBy codec place starts packets run → stands passed run ≡ true → Contains (standing-by codec place passed starts packets) run
-  standing-to run r s = filter-to (stands passed) (runs_by codec place starts packets) run ((are codec place starts packets run).1 r) s
+  pub standing-to : (run : Run) → IsRunBy codec place starts packets run → stands passed run ≡ true →
+      Contains (standing-by codec place passed starts packets) run
+  standing-to run r s =
+      filter-to (stands passed) (runs_by codec place starts packets) run ((are codec place starts packets run).1 r) s
 
 -- they rise by their first numbers
-pub standing-rises : RunsRise → (codec : Meaning) (place : ℕ → Option Place) (passed : Option ℕ) (starts : Piece → Bool) (packets : Packets) → is_sorted nat_cmp packets ≡ true
+pub standing-rises : RunsRise →
+    (codec : Meaning) (place : ℕ → Option Place) (passed : Option ℕ) (starts : Piece → Bool) (packets : Packets) →
+    is_sorted nat_cmp packets ≡ true
     → Rises (λ (run : Run). run.first) (standing-by codec place passed starts packets)
 standing-rises rise codec place passed starts packets sorted =
-    rises-filter (λ (run : Run). run.first) (stands passed) (runs_by codec place starts packets) (rises-from (λ (run : Run). run.first) (runs_by codec place starts packets) (rise codec place starts packets sorted))
+    rises-filter (λ (run : Run). run.first) (stands passed) (runs_by codec place starts packets)
+    (rises-from (λ (run : Run). run.first) (runs_by codec place starts packets)
+    (rise codec place starts packets sorted))
 
 -- what holds of the runs that stand on one side holds on the other
-abbrev pub Keeps : Meaning → (ℕ → Option Place) → (passed passed' : Option ℕ) → (starts starts' : Piece → Bool) → (packets packets' : Packets) → Type 0
-Keeps codec place passed passed' starts starts' packets packets' = (run : Run) → IsRunBy codec place starts packets run → stands passed run ≡ true → IsRunBy codec place starts' packets' run × (stands passed' run ≡ true)
+abbrev pub Keeps : Meaning → (ℕ → Option Place) → (passed passed' : Option ℕ) → (starts starts' : Piece → Bool) →
+    (packets packets' : Packets) → Type 0
+Keeps codec place passed passed' starts starts' packets packets' = (run : Run) →
+    IsRunBy codec place starts packets run → stands passed run ≡ true →
+    IsRunBy codec place starts' packets' run × (stands passed' run ≡ true)
 
 -- runs that stand on both sides alike are the same
-pub standing-equal : RunsAre → RunsRise → (codec : Meaning) (place : ℕ → Option Place) (passed passed' : Option ℕ) (starts starts' : Piece → Bool) (packets packets' : Packets)
+pub standing-equal : RunsAre → RunsRise →
+    (codec : Meaning) (place : ℕ → Option Place) (passed passed' : Option ℕ) (starts starts' : Piece → Bool)
+    (packets packets' : Packets)
     → is_sorted nat_cmp packets ≡ true → is_sorted nat_cmp packets' ≡ true
-    → Keeps codec place passed passed' starts starts' packets packets' → Keeps codec place passed' passed starts' starts packets' packets
+    → Keeps codec place passed passed' starts starts' packets packets' →
+    Keeps codec place passed' passed starts' starts packets' packets
     → standing-by codec place passed starts packets ≡ standing-by codec place passed' starts' packets'
 standing-equal are rise codec place passed passed' starts starts' packets packets' sorted sorted' to back =
-    same-lists (λ (run : Run). run.first) (standing-by codec place passed starts packets) (standing-by codec place passed' starts' packets')
-    (standing-rises rise codec place passed starts packets sorted) (standing-rises rise codec place passed' starts' packets' sorted')
-    (λ run there. let p = standing-from are codec place passed starts packets run there in let q = to run p.0 p.1 in standing-to are codec place passed' starts' packets' run q.0 q.1)
-    (λ run there. let p = standing-from are codec place passed' starts' packets' run there in let q = back run p.0 p.1 in standing-to are codec place passed starts packets run q.0 q.1)
+    same-lists (λ (run : Run). run.first) (standing-by codec place passed starts packets)
+    (standing-by codec place passed' starts' packets')
+    (standing-rises rise codec place passed starts packets sorted)
+    (standing-rises rise codec place passed' starts' packets' sorted')
+    (λ run there. let p = standing-from are codec place passed starts packets run there in let q = to run p.0 p.1 in
+    standing-to are codec place passed' starts' packets' run q.0 q.1)
+    (λ run there. let p = standing-from are codec place passed' starts' packets' run there in
+    let q = back run p.0 p.1 in standing-to are codec place passed starts packets run q.0 q.1)
 
 -- a run that stands begins beyond the number
 pub stands-beyond : (front : ℕ) (run : Run) → stands (Some front) run ≡ true → front < run.first
@@ -153,8 +192,9 @@ beyond-stands front run less = ap not (lt-leb run.first front less)
 
 -- The same starts, once the front went on: of a number beyond the front, the number before is passed only by the new
 -- front if it is that front, and then it ends a frame, or the front is the one before.
-pub start-same : (codec : Meaning) (packets : Packets) (began : ℕ → Bool) (before : Option ℕ) (front n : ℕ) (piece : Piece)
-    → ((m : ℕ) → stands_behind m packets ≡ true → began m ≡ true) → IsUpTo before (Some front)
+pub start-same : (codec : Meaning) (packets : Packets) (began : ℕ → Bool) (before : Option ℕ) (front n : ℕ)
+    (piece : Piece)
+    → ((m : ℕ) → stands_after_end m packets ≡ true → began m ≡ true) → IsUpTo before (Some front)
     → (before ≡ Some front) ⊎ (option_map_or ends_frame (at front packets) false ≡ true)
     → front < n → IsPiece codec packets n piece → is_start before began piece ≡ is_start (Some front) began piece
 start-same codec packets began before front n piece behind upto ends beyond is = elim ends [
@@ -163,16 +203,21 @@ start-same codec packets began before front n piece behind upto ends beyond is =
     | inl next ↦
         let number : piece.number ≡ n = is.number in
         let before_is : front ≡ n - 1 = omega arith in
-        let end' : option_map_or ends_frame (at (n - 1) packets) false ≡ true = subst (λ k. option_map_or ends_frame (at k packets) false ≡ true) before_is end in
-        let stood : stands_behind n packets ≡ true = and_from (is_available n packets) (option_map_or ends_frame (at (n - 1) packets) false) (piece-available codec packets n piece is) end' in
+        let end' : option_map_or ends_frame (at (n - 1) packets) false ≡ true =
+            subst (λ k. option_map_or ends_frame (at k packets) false ≡ true) before_is end in
+        let stood : stands_after_end n packets ≡ true =
+            and_from (is_available n packets) (option_map_or ends_frame (at (n - 1) packets) false)
+            (piece-available codec packets n piece is) end' in
         let began_is : began piece.number ≡ true = ap began number ∙ behind n stood in
         ap (λ b. begins piece.part.start (is_passed before (piece.number - 1) || b)) began_is
-        ∙ ap (λ b. begins piece.part.start b) (or_true (is_passed before (piece.number - 1)) (is_passed (Some front) (piece.number - 1)))
+        ∙ ap (λ b. begins piece.part.start b)
+        (or_true (is_passed before (piece.number - 1)) (is_passed (Some front) (piece.number - 1)))
         ∙ sym (ap (λ b. begins piece.part.start (is_passed (Some front) (piece.number - 1) || b)) began_is)
     | inr later ↦
         let number : piece.number ≡ n = is.number in
         let far : front < piece.number - 1 = omega arith in
-        ap (λ b. begins piece.part.start (b || began piece.number)) (not_passed before upto far ∙ sym (lt-leb (piece.number - 1) front far))
+        ap (λ b. begins piece.part.start (b || began piece.number))
+        (not_passed before upto far ∙ sym (lt-leb (piece.number - 1) front far))
   ]
 ] where
   or_true : (a b : Bool) → (a || true) ≡ (b || true)
@@ -181,6 +226,7 @@ start-same codec packets began before front n piece behind upto ends beyond is =
   or_true false true = refl
   or_true false false = refl
 
-  not_passed : (o : Option ℕ) → IsUpTo o (Some front) → front < piece.number - 1 → is_passed o (piece.number - 1) ≡ false
+  not_passed : (o : Option ℕ) → IsUpTo o (Some front) → front < piece.number - 1 →
+      is_passed o (piece.number - 1) ≡ false
   not_passed None up far = refl
   not_passed (Some old) up far = lt-leb (piece.number - 1) old (let up' : old ≤ front = up in omega arith)

@@ -15,33 +15,48 @@ use Rattle.vrx_core.specs.declared.assembler.Outcome.{Outcome}
 use Rattle.vrx_core.specs.declared.original.NotTaken.{NotTaken}
 use Rattle.vrx_core.proofs.step.FreshLemmas.{below-fresh, fresh-taken}
 
-module _ (codec : Meaning) (before after : Assembly) (wanted : Wanted) (moment : ℕ) (octets : List ℕ) (outcome : Outcome) (handled : IsHandled codec before after moment octets outcome) (whole : IsWhole codec before) (fresh : AreFresh before.window wanted.asks) where
+module _ (codec : Meaning) (before after : Assembly) (wanted : Wanted) (moment : ℕ) (octets : List ℕ)
+    (outcome : Outcome) (handled : IsHandled codec before after moment octets outcome) (whole : IsWhole codec before)
+    (fresh : AreFresh before.window wanted.asks) where
   -- the missing numbers are below the newest number before
-  below-by : (arrival : Option Arrival) (v : Result (ℕ × Content) NotTaken) → ComesOf codec before after moment arrival v → IfSome arrival (λ (a : Arrival). AreBelow a.newest wanted.asks)
-  below-by arrival (Err left) comes = subst (λ (o : Option Arrival). IfSome o (λ (a : Arrival). AreBelow a.newest wanted.asks)) (sym comes.0) tt
+  below-by : (arrival : Option Arrival) (v : Result (ℕ × Content) NotTaken) →
+      ComesOf codec before after moment arrival v → IfSome arrival (λ (a : Arrival). AreBelow a.newest wanted.asks)
+  below-by arrival (Err left) comes =
+      subst (λ (o : Option Arrival). IfSome o (λ (a : Arrival). AreBelow a.newest wanted.asks)) (sym comes.0) tt
   below-by arrival (Ok (n, content)) comes =
       subst (λ (o : Option Arrival). IfSome o (λ (a : Arrival). AreBelow a.newest wanted.asks)) (sym comes.1)
-      (subst (λ newest. AreBelow newest wanted.asks) (sym comes.2.arrives.newest_is) (below-fresh before.window wanted.asks fresh))
+      (subst (λ newest. AreBelow newest wanted.asks) (sym comes.2.arrives.newest_is)
+      (below-fresh before.window wanted.asks fresh))
 
   pub arrival-below : IfSome outcome.arrival (λ (a : Arrival). AreBelow a.newest wanted.asks)
-  arrival-below = below-by outcome.arrival (verdict before.settings codec (contents_of before.window) octets) handled.comes
+  arrival-below =
+      below-by outcome.arrival (verdict before.settings codec (contents_of before.window) octets) handled.comes
 
   -- which is short
-  short-newest : (o : Option ℕ) → IfSome o (λ m. (65536 ≤ m) × (m ≤ 131072 + HALF_SPACE * before.events)) → before.events ≤ MOST_EVENTS → IfSome o (λ m. m < 2 ^ 62)
+  short-newest : (o : Option ℕ) → IfSome o (λ m. (65536 ≤ m) × (m ≤ 131072 + HALF_SPACE * before.events)) →
+      before.events ≤ MOST_EVENTS → IfSome o (λ m. m < 2 ^ 62)
   short-newest None reach few = tt
-  short-newest (Some m) reach few = let upto : m ≤ 131072 + HALF_SPACE * before.events = reach.1 in let less : m < 2 ^ 62 = omega arith in less
+  short-newest (Some m) reach few = let upto : m ≤ 131072 + HALF_SPACE * before.events =
+      reach.1 in let less : m < 2 ^ 62 = omega arith in less
 
-  short-by : (arrival : Option Arrival) (v : Result (ℕ × Content) NotTaken) → ComesOf codec before after moment arrival v → IfSome arrival (λ (a : Arrival). IfSome a.newest (λ m. m < 2 ^ 62))
-  short-by arrival (Err left) comes = subst (λ (o : Option Arrival). IfSome o (λ (a : Arrival). IfSome a.newest (λ m. m < 2 ^ 62))) (sym comes.0) tt
+  short-by : (arrival : Option Arrival) (v : Result (ℕ × Content) NotTaken) →
+      ComesOf codec before after moment arrival v →
+      IfSome arrival (λ (a : Arrival). IfSome a.newest (λ m. m < 2 ^ 62))
+  short-by arrival (Err left) comes =
+      subst (λ (o : Option Arrival). IfSome o (λ (a : Arrival). IfSome a.newest (λ m. m < 2 ^ 62))) (sym comes.0) tt
   short-by arrival (Ok (n, content)) comes =
       subst (λ (o : Option Arrival). IfSome o (λ (a : Arrival). IfSome a.newest (λ m. m < 2 ^ 62))) (sym comes.1)
-      (subst (λ newest. IfSome newest (λ m. m < 2 ^ 62)) (sym comes.2.arrives.newest_is) (short-newest before.window.newest whole.kept.reach whole.kept.few))
+      (subst (λ newest. IfSome newest (λ m. m < 2 ^ 62)) (sym comes.2.arrives.newest_is)
+      (short-newest before.window.newest whole.kept.reach whole.kept.few))
 
   pub arrival-short : IfSome outcome.arrival (λ (a : Arrival). IfSome a.newest (λ m. m < 2 ^ 62))
-  arrival-short = short-by outcome.arrival (verdict before.settings codec (contents_of before.window) octets) handled.comes
+  arrival-short =
+      short-by outcome.arrival (verdict before.settings codec (contents_of before.window) octets) handled.comes
 
   -- and they stay fresh
-  fresh-by : (now : ℕ) (front key : Option ℕ) (arrival : Option Arrival) (v : Result (ℕ × Content) NotTaken) → ComesOf codec before after moment arrival v → AreFresh after.window (wanted_with now front key arrival wanted).asks
+  fresh-by : (now : ℕ) (front key : Option ℕ) (arrival : Option Arrival) (v : Result (ℕ × Content) NotTaken) →
+      ComesOf codec before after moment arrival v →
+      AreFresh after.window (wanted_with now front key arrival wanted).asks
   fresh-by now front key arrival (Err left) comes =
       subst (λ (o : Option Arrival). AreFresh after.window (wanted_with now front key o wanted).asks) (sym comes.0)
       (subst (λ (a : Assembly). AreFresh a.window wanted.asks) (sym comes.1) fresh)
@@ -49,7 +64,11 @@ module _ (codec : Meaning) (before after : Assembly) (wanted : Wanted) (moment :
       let t = comes.2 in
       subst (λ (o : Option Arrival). AreFresh after.window (wanted_with now front key o wanted).asks) (sym comes.1)
       (subst (λ (w : Contents Held). AreFresh w (asks_taken now comes.0 front wanted.asks)) (sym t.taken.window)
-      (fresh-taken before.window n t.held comes.0 now front wanted.asks whole.window t.arrives.number_is t.arrives.newest_is fresh))
+      (fresh-taken before.window n t.held comes.0 now front wanted.asks whole.window t.arrives.number_is
+      t.arrives.newest_is fresh))
 
-  pub arrival-fresh : (now : ℕ) (front key : Option ℕ) → AreFresh after.window (wanted_with now front key outcome.arrival wanted).asks
-  arrival-fresh now front key = fresh-by now front key outcome.arrival (verdict before.settings codec (contents_of before.window) octets) handled.comes
+  pub arrival-fresh : (now : ℕ) (front key : Option ℕ) →
+      AreFresh after.window (wanted_with now front key outcome.arrival wanted).asks
+  arrival-fresh now front key =
+      fresh-by now front key outcome.arrival
+      (verdict before.settings codec (contents_of before.window) octets) handled.comes

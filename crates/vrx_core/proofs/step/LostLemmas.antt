@@ -26,8 +26,11 @@ numbers-in (suc count) from m c = elim (Contains-either from (numbers_from (from
 pub numbers-of : (count from m : ℕ) → from ≤ m → m < from + count → Contains (numbers_from from count) m
 numbers-of zero from m low high = absurd (omega arith)
 numbers-of (suc count) from m low high = elim (cases_lt from m) [
-  | inl less ↦ Contains-tail from (numbers_from (from + 1) count) m (numbers-of count (from + 1) m (omega arith) (omega arith))
-  | inr upto ↦ let same : from ≡ m = omega arith in subst (λ k. Contains (from ∷ numbers_from (from + 1) count) k) same (Contains-head from (numbers_from (from + 1) count))
+  | inl less ↦ Contains-tail from (numbers_from (from + 1) count) m
+      (numbers-of count (from + 1) m (omega arith) (omega arith))
+  | inr upto ↦ let same : from ≡ m = omega arith in
+      subst (λ k. Contains (from ∷ numbers_from (from + 1) count) k) same
+      (Contains-head from (numbers_from (from + 1) count))
 ]
 
 -- no number of a list is above m
@@ -48,7 +51,9 @@ pub greatest-is : (xs : List ℕ) (m : ℕ) → Contains xs m → ((k : ℕ) →
 greatest-is [] m c upto = absurd (Contains-empty m c)
 greatest-is (x ∷ xs) m c upto = elim (Contains-either x xs m c) [
   | inl same ↦ ap (greater (greatest_of xs)) same ∙ greatest-upto xs m (λ k d. upto k (Contains-tail x xs k d))
-  | inr later ↦ let le : x ≤ m = upto x (Contains-head x xs) in ap (λ o. greater o x) (greatest-is xs m later (λ k d. upto k (Contains-tail x xs k d))) ∙ ap Some (grind (arith))
+  | inr later ↦ let le : x ≤ m = upto x (Contains-head x xs) in
+      ap (λ o. greater o x) (greatest-is xs m later (λ k d. upto k (Contains-tail x xs k d)))
+      ∙ ap Some (grind (arith))
 ]
 
 -- there is none in an empty list
@@ -70,15 +75,21 @@ not-passed (Some front) k is = elim (cases_lt front k) [
 
 passed-not : (front : Option ℕ) (k : ℕ) → after_pulled front ≤ k → not (is_passed front k) ≡ true
 passed-not None k beyond = refl
-passed-not (Some front) k beyond = ap not (false_from_ne_true (is_passed (Some front) k) (λ is. let upto : k ≤ front = leb-true k front is in absurd (omega arith)))
+passed-not (Some front) k beyond =
+    ap not (false_from_ne_true (is_passed (Some front) k)
+    (λ is. let upto : k ≤ front = leb-true k front is in absurd (omega arith)))
 
-module _ (window : Contents Held) (front : Option ℕ) (n first newest low high : ℕ) (first_is : window.first ≡ Some first) (newest_is : window.newest ≡ Some newest)
-    (low_is : low ≡ max (max (min (after_pulled front) (2 ^ 64 - 1)) first) (newest - (WINDOW - 1))) (high_is : high ≡ max newest n - (WINDOW - 1)) (short : max newest n < 2 ^ 64) where
+module _ (window : Contents Held) (front : Option ℕ) (n first newest low high : ℕ)
+    (first_is : window.first ≡ Some first) (newest_is : window.newest ≡ Some newest)
+    (low_is : low ≡ max (max (min (after_pulled front) (2 ^ 64 - 1)) first) (newest - (WINDOW - 1)))
+    (high_is : high ≡ max newest n - (WINDOW - 1)) (short : max newest n < 2 ^ 64) where
   left : List ℕ
   left = numbers_left window.first window.newest (Some (newest_with window.newest n))
 
-  left-is : numbers_left window.first window.newest (Some (newest_with window.newest n)) ≡ numbers_below (max first (newest + 1 - WINDOW)) (max newest n + 1 - WINDOW)
-  left-is = ap (λ (o : Option ℕ). numbers_left o window.newest (Some (newest_with window.newest n))) first_is ∙ ap (λ (o : Option ℕ). numbers_left (Some first) o (Some (newest_with o n))) newest_is
+  left-is : numbers_left window.first window.newest (Some (newest_with window.newest n)) ≡ numbers_below
+      (max first (newest + 1 - WINDOW)) (max newest n + 1 - WINDOW)
+  left-is = ap (λ (o : Option ℕ). numbers_left o window.newest (Some (newest_with window.newest n))) first_is
+      ∙ ap (λ (o : Option ℕ). numbers_left (Some first) o (Some (newest_with o n))) newest_is
 
   test : ℕ → Bool
   test m = not (is_passed front m) && not (is_dead m window.dead)
@@ -86,33 +97,45 @@ module _ (window : Contents Held) (front : Option ℕ) (n first newest low high 
   -- the numbers given up lie between, and aren't dead
   lost-in : (k : ℕ) → Contains (lost_from window front n) k → (low ≤ k) × (k < high) × (is_dead k window.dead ≡ false)
   lost-in k c =
-      let f = filter-from (λ m. not (is_passed front m) && not (is_dead m window.dead)) (numbers_left window.first window.newest (Some (newest_with window.newest n))) k c in
-      let b = numbers-in (max newest n + 1 - WINDOW - max first (newest + 1 - WINDOW)) (max first (newest + 1 - WINDOW)) k (subst (λ ns. Contains ns k) left-is f.0) in
+      let f = filter-from (λ m. not (is_passed front m) && not (is_dead m window.dead))
+          (numbers_left window.first window.newest (Some (newest_with window.newest n))) k c in
+      let b = numbers-in (max newest n + 1 - WINDOW - max first (newest + 1 - WINDOW))
+          (max first (newest + 1 - WINDOW)) k (subst (λ ns. Contains ns k) left-is f.0) in
       let both = and_parts (not (is_passed front k)) (not (is_dead k window.dead)) f.1 in
       let beyond : after_pulled front ≤ k = not-passed front k both.0 in
       let b0 : max first (newest + 1 - WINDOW) ≤ k = b.0 in
-      let b1 : k < max first (newest + 1 - WINDOW) + (max newest n + 1 - WINDOW - max first (newest + 1 - WINDOW)) = b.1 in
+      let b1 : k < max first (newest + 1 - WINDOW) + (max newest n + 1 - WINDOW - max first (newest + 1 - WINDOW)) =
+          b.1 in
       (grind (arith), grind (arith), false-of-not (is_dead k window.dead) both.1)
 
   lost-of : (k : ℕ) → low ≤ k → k < high → is_dead k window.dead ≡ false → Contains (lost_from window front n) k
   lost-of k from below alive =
       let beyond : after_pulled front ≤ k = grind (arith) in
-      filter-to (λ m. not (is_passed front m) && not (is_dead m window.dead)) (numbers_left window.first window.newest (Some (newest_with window.newest n))) k
-      (subst (λ ns. Contains ns k) (sym left-is) (numbers-of (max newest n + 1 - WINDOW - max first (newest + 1 - WINDOW)) (max first (newest + 1 - WINDOW)) k (grind (arith)) (grind (arith))))
+      filter-to (λ m. not (is_passed front m) && not (is_dead m window.dead))
+      (numbers_left window.first window.newest (Some (newest_with window.newest n))) k
+      (subst (λ ns. Contains ns k) (sym left-is)
+      (numbers-of (max newest n + 1 - WINDOW - max first (newest + 1 - WINDOW)) (max first (newest + 1 - WINDOW)) k
+      (grind (arith)) (grind (arith))))
       (and_from (not (is_passed front k)) (not (is_dead k window.dead)) (passed-not front k beyond) (ap not alive))
 
   -- the search goes down from the greatest
   abbrev pub AreDeadDown : ℕ → Type 0
   AreDeadDown back = (k : ℕ) → k < back → is_dead (high - 1 - k) window.dead ≡ true
 
-  pub lost-found : (back : ℕ) → back < high - low → AreDeadDown back → is_dead (high - 1 - back) window.dead ≡ false → Some (high - 1 - back) ≡ greatest_of (lost_from window front n)
-  lost-found back within dead alive = sym (greatest-is (lost_from window front n) (high - 1 - back) (lost-of (high - 1 - back) (omega arith) (omega arith) alive) upto) where
+  pub lost-found : (back : ℕ) → back < high - low → AreDeadDown back → is_dead (high - 1 - back) window.dead ≡ false →
+      Some (high - 1 - back) ≡ greatest_of (lost_from window front n)
+  lost-found back within dead alive =
+      sym (greatest-is (lost_from window front n) (high - 1 - back)
+      (lost-of (high - 1 - back) (omega arith) (omega arith) alive) upto) where
     upto : (k : ℕ) → Contains (lost_from window front n) k → k ≤ high - 1 - back
     upto k c = let r = lost-in k c in elim (cases_lt (high - 1 - back) k) [
-      | inl above ↦ absurd (true≢false (sym (dead (high - 1 - k) (omega (arith, above, r.1))) ∙ ap (λ m. is_dead m window.dead) (let e : high - 1 - (high - 1 - k) ≡ k = omega (arith, r.1) in e) ∙ r.2))
+      | inl above ↦ absurd (true≢false
+          (sym (dead (high - 1 - k) (omega (arith, above, r.1)))
+          ∙ ap (λ m. is_dead m window.dead) (let e : high - 1 - (high - 1 - k) ≡ k = omega (arith, r.1) in e) ∙ r.2))
       | inr le ↦ le
     ]
 
   pub lost-nowhere : (back : ℕ) → high - low ≤ back → AreDeadDown back → None ≡ greatest_of (lost_from window front n)
   lost-nowhere back all dead = sym (greatest-none (lost_from window front n) (λ k c. let r = lost-in k c in
-      true≢false (sym (dead (high - 1 - k) (omega (arith, r.0, r.1))) ∙ ap (λ m. is_dead m window.dead) (let e : high - 1 - (high - 1 - k) ≡ k = omega (arith, r.1) in e) ∙ r.2)))
+      true≢false (sym (dead (high - 1 - k) (omega (arith, r.0, r.1)))
+      ∙ ap (λ m. is_dead m window.dead) (let e : high - 1 - (high - 1 - k) ≡ k = omega (arith, r.1) in e) ∙ r.2)))

@@ -19,25 +19,33 @@ below-first n below less = ap (numbers_from n) (let e : below - n ≡ suc (below
 pub below-end : (n below : ℕ) → below ≤ n → numbers_below n below ≡ []
 below-end n below upto = ap (numbers_from n) (let e : below - n ≡ 0 = omega arith in e)
 
-pub noticed-asks : (now n below : ℕ) (asks : List Ask) → n < below → with_all_missing now (numbers_below (n + 1) below) (with_missing n now asks) ≡ with_all_missing now (numbers_below n below) asks
+pub noticed-asks : (now n below : ℕ) (asks : List Ask) → n < below →
+    with_all_missing now (numbers_below (n + 1) below) (with_missing n now asks) ≡ with_all_missing now
+    (numbers_below n below) asks
 noticed-asks now n below asks less = sym (ap (λ ns. with_all_missing now ns asks) (below-first n below less))
 
-pub noticed-numbers : (n below : ℕ) (numbers : List ℕ) → n < below → (numbers ++ n ∷ []) ++ numbers_below (n + 1) below ≡ numbers ++ numbers_below n below
-noticed-numbers n below numbers less = append_assoc numbers (n ∷ []) (numbers_below (n + 1) below) ∙ ap (λ ns. numbers ++ ns) (sym (below-first n below less))
+pub noticed-numbers : (n below : ℕ) (numbers : List ℕ) → n < below →
+    (numbers ++ n ∷ []) ++ numbers_below (n + 1) below ≡ numbers ++ numbers_below n below
+noticed-numbers n below numbers less = append_assoc numbers (n ∷ []) (numbers_below (n + 1) below)
+    ∙ ap (λ ns. numbers ++ ns) (sym (below-first n below less))
 
 -- one more number that is missing
-pub below-more : (n now : ℕ) (asks : List Ask) → are_below n asks ≡ true → are_below (n + 1) (with_missing n now asks) ≡ true
+pub below-more : (n now : ℕ) (asks : List Ask) → are_below n asks ≡ true →
+    are_below (n + 1) (with_missing n now asks) ≡ true
 below-more n now [] below = and_from (nat_lt n (n + 1)) true (lt-ltb n (n + 1) (omega arith)) refl
 below-more n now (ask ∷ asks) below =
     let both = and_parts (nat_lt ask.number n) (list_all (λ (a : Ask). nat_lt a.number n) asks) below in
     let less : ask.number < n = ltb-true ask.number n both.0 in
-    and_from (nat_lt ask.number (n + 1)) (list_all (λ (a : Ask). nat_lt a.number (n + 1)) (with_missing n now asks)) (lt-ltb ask.number (n + 1) (omega arith)) (below-more n now asks both.1)
+    and_from (nat_lt ask.number (n + 1)) (list_all (λ (a : Ask). nat_lt a.number (n + 1)) (with_missing n now asks))
+    (lt-ltb ask.number (n + 1) (omega arith)) (below-more n now asks both.1)
 
-pub near-more : (n now last : ℕ) (asks : List Ask) → last + 1 < n + WINDOW → is_near last asks ≡ true → is_near last (with_missing n now asks) ≡ true
+pub near-more : (n now last : ℕ) (asks : List Ask) → last + 1 < n + WINDOW → is_near last asks ≡ true →
+    is_near last (with_missing n now asks) ≡ true
 near-more n now last [] room near = lt-ltb (last + 1) (n + WINDOW) room
 near-more n now last (ask ∷ asks) room near = near
 
 -- a number that isn't beyond the last of those noticed is near
 pub near-less : (n last : ℕ) (asks : List Ask) → n ≤ last → is_near last asks ≡ true → is_near n asks ≡ true
 near-less n last [] upto near = refl
-near-less n last (ask ∷ asks) upto near = let less : last + 1 < ask.number + WINDOW = ltb-true (last + 1) (ask.number + WINDOW) near in lt-ltb (n + 1) (ask.number + WINDOW) (omega arith)
+near-less n last (ask ∷ asks) upto near = let less : last + 1 < ask.number + WINDOW =
+    ltb-true (last + 1) (ask.number + WINDOW) near in lt-ltb (n + 1) (ask.number + WINDOW) (omega arith)

@@ -14,7 +14,7 @@ use Rattle.vrx_core.specs.machine.Machine.{Reply, ToDatagram, ToTick, ToPull, Sn
 use Rattle.vrx_core.specs.honest.Sender.{SentFrame, Sender}
 use Rattle.vrx_core.specs.honest.Chain.{InChain}
 use Rattle.vrx_core.specs.honest.HonestSender.{HonestSender}
-use Rattle.vrx_core.specs.honest.HonestNetwork.{Origin, HonestNetwork, taken}
+use Rattle.vrx_core.specs.honest.HonestNetwork.{Origin, HonestNetwork, packets_taken}
 use Rattle.vrx_core.specs.honest.Ready.{IsNumber, Ready}
 use Rattle.vrx_core.specs.declared.settings.Settings.{Settings}
 use Rattle.vrx_core.specs.declared.event.Event.{Event}
@@ -30,7 +30,8 @@ pub record IsSentFrame (sent : SentFrame) (frame : Frame) : Type 0 where
 
 -- a frame pulled after a history is the sender's frame f, under its packets' numbers; f is ready, and the least that
 -- is
-pub record IsLeastReady (settings : Settings) (codec : Meaning) (sender : Sender) (h : List Event) (origins : List Origin) (frame : Frame) (f : ℕ) : Type 0 where
+pub record IsLeastReady (settings : Settings) (codec : Meaning) (sender : Sender) (h : List Event)
+    (origins : List Origin) (frame : Frame) (f : ℕ) : Type 0 where
   pub ready : Ready settings codec sender h origins f
   pub least : (g : ℕ) → Ready settings codec sender h origins g → f ≤ g
   pub first : frame.first ≡ ready.complete.first
@@ -40,14 +41,17 @@ pub record IsLeastReady (settings : Settings) (codec : Meaning) (sender : Sender
 -- a pull gives the least ready frame, of this place, and NotReady exactly if no frame is ready. What gives no
 -- frame has no place
 abbrev pub IsAnswer : Settings → Meaning → Sender → List Event → List Origin → Event → Reply → Option ℕ → Type 0
-IsAnswer settings codec sender h origins (Pull moment) (ToPull pulls.NotReady) None = (f : ℕ) → Ready settings codec sender h origins f → ⊥
-IsAnswer settings codec sender h origins (Pull moment) (ToPull (pulls.Frame frame)) (Some f) = IsLeastReady settings codec sender h origins frame f
+IsAnswer settings codec sender h origins (Pull moment) (ToPull pulls.NotReady) None =
+    (f : ℕ) → Ready settings codec sender h origins f → ⊥
+IsAnswer settings codec sender h origins (Pull moment) (ToPull (pulls.Frame frame)) (Some f) =
+    IsLeastReady settings codec sender h origins frame f
 IsAnswer settings codec sender h origins (Datagram moment octets) (ToDatagram handled) None = Unit {0}
 IsAnswer settings codec sender h origins (Tick moment) (ToTick feedback) None = Unit {0}
 IsAnswer settings codec sender h origins _ _ _ = ⊥
 
 -- each of the events that follow a history is answered so, with the place of the frame that it gives, if it gives one
-abbrev pub Answers : Settings → Meaning → Sender → List Event → List Origin → List Event → List Origin → List Reply → List (Option ℕ) → Type 0
+abbrev pub Answers : Settings → Meaning → Sender → List Event → List Origin → List Event → List Origin → List Reply →
+    List (Option ℕ) → Type 0
 Answers settings codec sender h origins [] [] [] [] = Unit {0}
 Answers settings codec sender h origins (e ∷ es) (o ∷ os) (r ∷ rs) (f ∷ fs) =
     IsAnswer settings codec sender h origins e r f × Answers settings codec sender (e ∷ h) (o ∷ origins) es os rs fs
@@ -68,7 +72,8 @@ frames_of (ToTick feedback ∷ rs) = frames_of rs
 -- these frames are the sender's frames of these places
 abbrev pub AreSent : Sender → List ℕ → List Frame → Type 0
 AreSent sender [] [] = Unit {0}
-AreSent sender (f ∷ fs) (frame ∷ frames) = IsSomeAnd (slice_get sender.frames f) (λ sent. IsSentFrame sent frame) × AreSent sender fs frames
+AreSent sender (f ∷ fs) (frame ∷ frames) =
+    IsSomeAnd (slice_get sender.frames f) (λ sent. IsSentFrame sent frame) × AreSent sender fs frames
 AreSent sender [] (frame ∷ frames) = ⊥
 AreSent sender (f ∷ fs) [] = ⊥
 
@@ -81,7 +86,9 @@ BeginsWithKey (frame ∷ frames) = frame.key ≡ true
 -- stand in the first list
 abbrev pub AfterReferences : Sender → List ℕ → List ℕ → Type 0
 AfterReferences sender before [] = Unit {0}
-AfterReferences sender before (f ∷ fs) = ((g : ℕ) → InChain sender f g → Contains before g) × IfSome (slice_get sender.frames f) (λ frame. All (λ g. Contains before g) frame.references) × AfterReferences sender (f ∷ before) fs
+AfterReferences sender before (f ∷ fs) = ((g : ℕ) → InChain sender f g → Contains before g)
+    × IfSome (slice_get sender.frames f) (λ frame. All (λ g. Contains before g) frame.references)
+    × AfterReferences sender (f ∷ before) fs
 
 -- the feedback of a reply: a pull has none
 abbrev pub feedback_in : Reply → Option Feedback
@@ -106,30 +113,36 @@ StaysOutstanding settings codec h e =
 abbrev pub AsksForLoss : Settings → Meaning → Sender → List Event → List Origin → Event → Origin → Reply → Type 0
 AsksForLoss settings codec sender h origins e o r =
     let s : Snapshot = latest (snapshots settings codec (e ∷ h)) in
-    (i n : ℕ) → IsNumber sender (taken settings codec (e ∷ h) (o ∷ origins)) i n → Contains s.lost n
+    (i n : ℕ) → IsNumber sender (packets_taken settings codec (e ∷ h) (o ∷ origins)) i n → Contains s.lost n
     → AsksForKey r ⊎ ((is_answered s n ≡ true) ⊎ StaysOutstanding settings codec h e)
 
 -- so does the reply to each of the events that follow a history
-abbrev pub LossesAsked : Settings → Meaning → Sender → List Event → List Origin → List Event → List Origin → List Reply → Type 0
+abbrev pub LossesAsked : Settings → Meaning → Sender → List Event → List Origin → List Event → List Origin →
+    List Reply → Type 0
 LossesAsked settings codec sender h origins [] [] [] = Unit {0}
 LossesAsked settings codec sender h origins (e ∷ es) (o ∷ os) (r ∷ rs) =
-    AsksForLoss settings codec sender h origins e o r × LossesAsked settings codec sender (e ∷ h) (o ∷ origins) es os rs
+    AsksForLoss settings codec sender h origins e o r
+    × LossesAsked settings codec sender (e ∷ h) (o ∷ origins) es os rs
 LossesAsked settings codec sender h origins _ _ _ = ⊥
 
 -- the frames pulled are the sender's, byte for byte, in order, each at most once, from a keyframe on, and after all
 -- their references. Each pull is answered by the least ready frame, or by NotReady exactly if none is ready. Each
 -- packet that is given up brings a request for a keyframe with the event that gives it up, unless one is outstanding
 -- or a later keyframe answers it
-pub record HonestCall (settings : Settings) (codec : Meaning) (sender : Sender) (events : List Event) (origins : List Origin) (replies : List Reply) : Type 0 where
+pub record HonestCall (settings : Settings) (codec : Meaning) (sender : Sender) (events : List Event)
+    (origins : List Origin) (replies : List Reply) : Type 0 where
   -- the place of the frame that each event gives, if it gives one
-  pub given : List (Option ℕ)
-  pub answers : Answers settings codec sender [] [] events origins replies given
-  pub rising : IsStrictlyIncreasing (places_of given)
-  pub sent : AreSent sender (places_of given) (frames_of replies)
+  pub frames_given : List (Option ℕ)
+  pub answers : Answers settings codec sender [] [] events origins replies frames_given
+  pub rising : IsStrictlyIncreasing (places_of frames_given)
+  pub sent : AreSent sender (places_of frames_given) (frames_of replies)
   pub from_key : BeginsWithKey (frames_of replies)
-  pub after_references : AfterReferences sender [] (places_of given)
+  pub after_references : AfterReferences sender [] (places_of frames_given)
   pub losses : LossesAsked settings codec sender [] [] events origins replies
 
 -- every honest call is answered so, whatever settings without a fault and whatever the codec's meaning
 abbrev pub HonestCallHolds : Type 0
-HonestCallHolds = (settings : Settings) (codec : Meaning) (sender : Sender) (events : List Event) (origins : List Origin) → fault_of settings ≡ None → HonestSender settings codec sender → HonestNetwork settings codec sender [] [] events origins → HonestCall settings codec sender events origins (replies settings codec [] events)
+HonestCallHolds = (settings : Settings) (codec : Meaning) (sender : Sender) (events : List Event)
+    (origins : List Origin) → fault_of settings ≡ None → HonestSender settings codec sender →
+    HonestNetwork settings codec sender [] [] events origins →
+    HonestCall settings codec sender events origins (replies settings codec [] events)

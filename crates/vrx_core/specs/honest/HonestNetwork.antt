@@ -22,13 +22,14 @@ abbrev pub takes : Settings → Meaning → List Event → List ℕ → Bool
 takes settings codec h octets = is_ok (verdict settings codec (latest (snapshots settings codec h)).window octets)
 
 -- the sender's packets that were taken in a history, the newest first; the origins stand in the order of the events
-unfoldable pub taken : Settings → Meaning → List Event → List Origin → List ℕ
-taken settings codec [] origins = []
-taken settings codec (e ∷ h) [] = []
-taken settings codec (e ∷ h) (Elsewhere ∷ origins) = taken settings codec h origins
-taken settings codec (Tick moment ∷ h) (FromSender i ∷ origins) = taken settings codec h origins
-taken settings codec (Pull moment ∷ h) (FromSender i ∷ origins) = taken settings codec h origins
-taken settings codec (Datagram moment octets ∷ h) (FromSender i ∷ origins) = if takes settings codec h octets then i ∷ taken settings codec h origins else taken settings codec h origins
+unfoldable pub packets_taken : Settings → Meaning → List Event → List Origin → List ℕ
+packets_taken settings codec [] origins = []
+packets_taken settings codec (e ∷ h) [] = []
+packets_taken settings codec (e ∷ h) (Elsewhere ∷ origins) = packets_taken settings codec h origins
+packets_taken settings codec (Tick moment ∷ h) (FromSender i ∷ origins) = packets_taken settings codec h origins
+packets_taken settings codec (Pull moment ∷ h) (FromSender i ∷ origins) = packets_taken settings codec h origins
+packets_taken settings codec (Datagram moment octets ∷ h) (FromSender i ∷ origins) = if takes settings codec h octets
+    then i ∷ packets_taken settings codec h origins else packets_taken settings codec h origins
 
 -- the greatest of the packets taken
 abbrev pub greatest : List ℕ → ℕ
@@ -49,7 +50,8 @@ IsDelivery settings codec sender h origins (Pull moment) Elsewhere = Unit {0}
 IsDelivery settings codec sender h origins (Pull moment) (FromSender i) = ⊥
 IsDelivery settings codec sender h origins (Datagram moment octets) Elsewhere = IsErr (original settings codec octets)
 IsDelivery settings codec sender h origins (Datagram moment octets) (FromSender i) =
-    IsSomeAnd (slice_get sender.packets i) (λ packet. IsWireForm settings (wire_of sender i) packet octets) × IsNear i (taken settings codec h origins)
+    IsSomeAnd (slice_get sender.packets i) (λ packet. IsWireForm settings (wire_of sender i) packet octets)
+    × IsNear i (packets_taken settings codec h origins)
 
 -- each of the events that follow a history is such a delivery
 abbrev pub HonestNetwork : Settings → Meaning → Sender → List Event → List Origin → List Event → List Origin → Type 0

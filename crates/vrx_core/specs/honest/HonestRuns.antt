@@ -6,7 +6,7 @@ use Rattle.vrx_core.specs.machine.SettingsFault.{fault_of}
 use Rattle.vrx_core.specs.machine.Machine.{latest, snapshots}
 use Rattle.vrx_core.specs.honest.Sender.{SentFrame, Sender}
 use Rattle.vrx_core.specs.honest.HonestSender.{HonestSender}
-use Rattle.vrx_core.specs.honest.HonestNetwork.{Origin, HonestNetwork, taken}
+use Rattle.vrx_core.specs.honest.HonestNetwork.{Origin, HonestNetwork, packets_taken}
 use Rattle.vrx_core.specs.honest.Ready.{HasNumbers, StandsComplete}
 use Rattle.vrx_core.specs.declared.settings.Settings.{Settings}
 use Rattle.vrx_core.specs.declared.event.Event.{Event}
@@ -26,12 +26,16 @@ pub record IsFrameRun (sender : Sender) (js : List ℕ) (f : ℕ) (run : Run) : 
   pub layers : run.layers ≡ None
 
 -- after a history, each run that stands is a frame of the sender, and each frame that stands complete is such a run
-pub record RunsRightly (settings : Settings) (codec : Meaning) (sender : Sender) (h : List Event) (origins : List Origin) : Type 0 where
-  pub frames : (run : Run) → Stands settings codec h run → (f : ℕ) × IsFrameRun sender (taken settings codec h origins) f run
-  pub runs : (f : ℕ) → StandsComplete settings codec sender h origins f → (run : Run) × Stands settings codec h run × IsFrameRun sender (taken settings codec h origins) f run
+pub record RunsRightly (settings : Settings) (codec : Meaning) (sender : Sender) (h : List Event)
+    (origins : List Origin) : Type 0 where
+  pub frames : (run : Run) → Stands settings codec h run →
+      (f : ℕ) × IsFrameRun sender (packets_taken settings codec h origins) f run
+  pub runs : (f : ℕ) → StandsComplete settings codec sender h origins f →
+      (run : Run) × Stands settings codec h run × IsFrameRun sender (packets_taken settings codec h origins) f run
 
 -- after a history, and after each of the events that follow it
-abbrev pub RunsRightlyFrom : Settings → Meaning → Sender → List Event → List Origin → List Event → List Origin → Type 0
+abbrev pub RunsRightlyFrom : Settings → Meaning → Sender → List Event → List Origin → List Event → List Origin →
+    Type 0
 RunsRightlyFrom settings codec sender h origins [] [] = RunsRightly settings codec sender h origins
 RunsRightlyFrom settings codec sender h origins (e ∷ es) (o ∷ os) =
     RunsRightly settings codec sender h origins × RunsRightlyFrom settings codec sender (e ∷ h) (o ∷ origins) es os
@@ -40,4 +44,7 @@ RunsRightlyFrom settings codec sender h origins (e ∷ es) [] = ⊥
 
 -- in every honest call the runs are so, whatever settings without a fault and whatever the codec's meaning
 abbrev pub HonestRunsHolds : Type 0
-HonestRunsHolds = (settings : Settings) (codec : Meaning) (sender : Sender) (events : List Event) (origins : List Origin) → fault_of settings ≡ None → HonestSender settings codec sender → HonestNetwork settings codec sender [] [] events origins → RunsRightlyFrom settings codec sender [] [] events origins
+HonestRunsHolds = (settings : Settings) (codec : Meaning) (sender : Sender) (events : List Event)
+    (origins : List Origin) → fault_of settings ≡ None → HonestSender settings codec sender →
+    HonestNetwork settings codec sender [] [] events origins →
+    RunsRightlyFrom settings codec sender [] [] events origins

@@ -9,9 +9,9 @@ use Rattle.vrx_core.specs.machine.SettingsFault.{fault_of}
 use Rattle.vrx_core.specs.machine.GivenUp.{is_lost}
 use Rattle.vrx_core.specs.machine.Machine.{answer_taken, latest, snapshots, reply, what_in}
 use Rattle.vrx_core.specs.honest.Sender.{Sender}
-use Rattle.vrx_core.specs.honest.WireForm.{brought_by}
+use Rattle.vrx_core.specs.honest.WireForm.{content_sent}
 use Rattle.vrx_core.specs.honest.HonestSender.{HonestSender}
-use Rattle.vrx_core.specs.honest.HonestNetwork.{Origin, FromSender, Elsewhere, HonestNetwork, greatest, takes, taken}
+use Rattle.vrx_core.specs.honest.HonestNetwork.{Origin, FromSender, Elsewhere, HonestNetwork, greatest, takes, packets_taken}
 use Rattle.vrx_core.specs.honest.Ready.{IsNumber}
 use Rattle.vrx_core.specs.declared.settings.Settings.{Settings}
 use Rattle.vrx_core.specs.declared.event.Event.{Event}
@@ -25,12 +25,14 @@ IsInReach i (j ∷ js) = (i < greatest (j ∷ js) + HALF_SPACE) × (greatest (j 
 
 -- packet i was given up, by an event of a history: the number by which the receiver knows it was
 abbrev pub WasGivenUp : Settings → Meaning → Sender → List Event → List Origin → ℕ → Type 0
-WasGivenUp settings codec sender h origins i = (n : ℕ) × IsNumber sender (taken settings codec h origins) i n × (is_lost (snapshots settings codec h) n ≡ true)
+WasGivenUp settings codec sender h origins i = (n : ℕ) × IsNumber sender (packets_taken settings codec h origins) i n
+    × (is_lost (snapshots settings codec h) n ≡ true)
 
 -- packet i is one to take, after a history: it is in reach, and was neither taken before nor given up
-pub record IsToTake (settings : Settings) (codec : Meaning) (sender : Sender) (h : List Event) (origins : List Origin) (i : ℕ) : Type 0 where
-  pub in_reach : IsInReach i (taken settings codec h origins)
-  pub not_taken : Contains (taken settings codec h origins) i → ⊥
+pub record IsToTake (settings : Settings) (codec : Meaning) (sender : Sender) (h : List Event) (origins : List Origin)
+    (i : ℕ) : Type 0 where
+  pub in_reach : IsInReach i (packets_taken settings codec h origins)
+  pub not_taken : Contains (packets_taken settings codec h origins) i → ⊥
   pub not_given_up : WasGivenUp settings codec sender h origins i → ⊥
 
 -- packet i is one to keep: it was taken, and lies fewer than 2,048 places below the greatest packet taken
@@ -39,28 +41,38 @@ IsToKeep i js = Contains js i × (greatest js < i + WINDOW)
 
 -- packet i is available after a history, under its number and with its content
 abbrev pub IsKeptAt : Settings → Meaning → Sender → List Event → List Origin → ℕ → Type 0
-IsKeptAt settings codec sender h origins i = (n : ℕ) × IsNumber sender (taken settings codec h origins) i n
-    × IsSomeAnd (slice_get sender.packets i) (λ packet. at n (latest (snapshots settings codec h)).window.packets ≡ Some (brought_by packet))
+IsKeptAt settings codec sender h origins i = (n : ℕ) × IsNumber sender (packets_taken settings codec h origins) i n
+    × IsSomeAnd (slice_get sender.packets i)
+    (λ packet. at n (latest (snapshots settings codec h)).window.packets ≡ Some (content_sent packet))
 
 -- what is available after a history
-pub record KeepsRightly (settings : Settings) (codec : Meaning) (sender : Sender) (h : List Event) (origins : List Origin) : Type 0 where
+pub record KeepsRightly (settings : Settings) (codec : Meaning) (sender : Sender) (h : List Event)
+    (origins : List Origin) : Type 0 where
   -- a packet is available, under its number and with its content, exactly if it is one to keep
-  pub kept : (i : ℕ) → IsKeptAt settings codec sender h origins i ↔ IsToKeep i (taken settings codec h origins)
+  pub kept : (i : ℕ) → IsKeptAt settings codec sender h origins i
+      ↔ IsToKeep i (packets_taken settings codec h origins)
   -- an available number is that of a packet to keep
-  pub only : (n : ℕ) → is_available n (latest (snapshots settings codec h)).window.packets ≡ true → (i : ℕ) × IsNumber sender (taken settings codec h origins) i n × IsToKeep i (taken settings codec h origins)
+  pub only : (n : ℕ) → is_available n (latest (snapshots settings codec h)).window.packets ≡ true →
+      (i : ℕ) × IsNumber sender (packets_taken settings codec h origins) i n
+      × IsToKeep i (packets_taken settings codec h origins)
 
 -- what a datagram that brings packet i of the sender meets after a history
-pub record TakesPacket (settings : Settings) (codec : Meaning) (sender : Sender) (h : List Event) (origins : List Origin) (moment : ℕ) (octets : List ℕ) (i : ℕ) : Type 0 where
+pub record TakesPacket (settings : Settings) (codec : Meaning) (sender : Sender) (h : List Event)
+    (origins : List Origin) (moment : ℕ) (octets : List ℕ) (i : ℕ) : Type 0 where
   -- it is taken exactly if its packet is one to take
   pub exactly : (takes settings codec h octets ≡ true) ↔ IsToTake settings codec sender h origins i
   -- if it is taken, it is answered as what it brings, by the number by which the receiver knows the packet from then
   -- on
-  pub answer : takes settings codec h octets ≡ true → (n : ℕ) × IsNumber sender (i ∷ taken settings codec h origins) i n
-      × IsSomeAnd (slice_get sender.packets i) (λ packet. what_in (reply settings codec h (Datagram moment octets)) ≡ Some (answer_taken n (brought_by packet)))
+  pub answer : takes settings codec h octets ≡ true →
+      (n : ℕ) × IsNumber sender (i ∷ packets_taken settings codec h origins) i n
+      × IsSomeAnd (slice_get sender.packets i)
+      (λ packet. what_in (reply settings codec h (Datagram moment octets)) ≡ Some
+      (answer_taken n (content_sent packet)))
 
 -- each datagram of the sender is taken and answered rightly
 abbrev pub IsTakenRightly : Settings → Meaning → Sender → List Event → List Origin → Event → Origin → Type 0
-IsTakenRightly settings codec sender h origins (Datagram moment octets) (FromSender i) = TakesPacket settings codec sender h origins moment octets i
+IsTakenRightly settings codec sender h origins (Datagram moment octets) (FromSender i) =
+    TakesPacket settings codec sender h origins moment octets i
 IsTakenRightly settings codec sender h origins (Datagram moment octets) Elsewhere = Unit {0}
 IsTakenRightly settings codec sender h origins (Tick moment) origin = Unit {0}
 IsTakenRightly settings codec sender h origins (Pull moment) origin = Unit {0}
@@ -70,10 +82,13 @@ IsTakenRightly settings codec sender h origins (Pull moment) origin = Unit {0}
 abbrev pub TakesRightly : Settings → Meaning → Sender → List Event → List Origin → List Event → List Origin → Type 0
 TakesRightly settings codec sender h origins [] [] = KeepsRightly settings codec sender h origins
 TakesRightly settings codec sender h origins (e ∷ es) (o ∷ os) =
-    KeepsRightly settings codec sender h origins × IsTakenRightly settings codec sender h origins e o × TakesRightly settings codec sender (e ∷ h) (o ∷ origins) es os
+    KeepsRightly settings codec sender h origins × IsTakenRightly settings codec sender h origins e o
+    × TakesRightly settings codec sender (e ∷ h) (o ∷ origins) es os
 TakesRightly settings codec sender h origins [] (o ∷ os) = ⊥
 TakesRightly settings codec sender h origins (e ∷ es) [] = ⊥
 
 -- every honest call takes and keeps so, whatever settings without a fault and whatever the codec's meaning
 abbrev pub HonestTakenHolds : Type 0
-HonestTakenHolds = (settings : Settings) (codec : Meaning) (sender : Sender) (events : List Event) (origins : List Origin) → fault_of settings ≡ None → HonestSender settings codec sender → HonestNetwork settings codec sender [] [] events origins → TakesRightly settings codec sender [] [] events origins
+HonestTakenHolds = (settings : Settings) (codec : Meaning) (sender : Sender) (events : List Event)
+    (origins : List Origin) → fault_of settings ≡ None → HonestSender settings codec sender →
+    HonestNetwork settings codec sender [] [] events origins → TakesRightly settings codec sender [] [] events origins

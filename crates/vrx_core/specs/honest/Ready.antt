@@ -10,7 +10,7 @@ use Rattle.vrx_frames.specs.Run.{Packets, Run, is_passed}
 use Rattle.vrx_core.specs.machine.Machine.{latest, snapshots, times}
 use Rattle.vrx_core.specs.honest.Sender.{SentFrame, SentPacket, Media, Empty, Sender, Spans, wire_of}
 use Rattle.vrx_core.specs.honest.Chain.{IsRuleReference}
-use Rattle.vrx_core.specs.honest.HonestNetwork.{Origin, taken}
+use Rattle.vrx_core.specs.honest.HonestNetwork.{Origin, packets_taken}
 use Rattle.vrx_core.specs.declared.settings.Settings.{Settings}
 use Rattle.vrx_core.specs.declared.event.Event.{Event}
 
@@ -31,12 +31,14 @@ pub record HasNumbers (sender : Sender) (js : List ℕ) (f first last : ℕ) : T
 
 -- a packet says that a frame begins with it
 abbrev pub SaysStart : Meaning → SentPacket → Type 0
-SaysStart codec (Media frame part text) = (packet : Packet) × (said : Part) × (read text ≡ Some packet) × (codec.read packet.payload ≡ Ok said) × (said.start ≡ Yes)
+SaysStart codec (Media frame part text) = (packet : Packet) × (said : Part) × (read text ≡ Some packet)
+    × (codec.read packet.payload ≡ Ok said) × (said.start ≡ Yes)
 SaysStart codec Empty = ⊥
 
 -- n and the number before were both available at some time
 abbrev pub WereBeside : List Packets → ℕ → Type 0
-WereBeside times n = (packets : Packets) × Contains times packets × (is_available n packets ≡ true) × (is_available (n - 1) packets ≡ true)
+WereBeside times n = (packets : Packets) × Contains times packets × (is_available n packets ≡ true)
+    × (is_available (n - 1) packets ≡ true)
 
 -- it is evident after a history that a frame begins with packet i, which the receiver knows by the number n: the
 -- packet says so; or the number before is passed; or both numbers were available at the end of some event
@@ -48,25 +50,29 @@ BeginsEvidently settings codec sender h i n =
 
 -- frame f of the sender stands complete after a history: each of its packets is available, it lies beyond every frame
 -- that was pulled, and it is evident where it begins
-pub record StandsComplete (settings : Settings) (codec : Meaning) (sender : Sender) (h : List Event) (origins : List Origin) (f : ℕ) : Type 0 where
+pub record StandsComplete (settings : Settings) (codec : Meaning) (sender : Sender) (h : List Event)
+    (origins : List Origin) (f : ℕ) : Type 0 where
   pub frame : SentFrame
   pub sent : slice_get sender.frames f ≡ Some frame
   pub first : ℕ
   pub last : ℕ
-  pub numbered : HasNumbers sender (taken settings codec h origins) f first last
-  pub available : (n : ℕ) → first ≤ n → n ≤ last → is_available n (latest (snapshots settings codec h)).window.packets ≡ true
+  pub numbered : HasNumbers sender (packets_taken settings codec h origins) f first last
+  pub available : (n : ℕ) → first ≤ n → n ≤ last →
+      is_available n (latest (snapshots settings codec h)).window.packets ≡ true
   pub beyond : All (λ run. run.last < first) (latest (snapshots settings codec h)).pulled
   pub begins : BeginsEvidently settings codec sender h numbered.from first
 
 -- frame g was pulled, and it is evident that a frame which begins with this number follows it: every number between
 -- them is passed
-pub record Follows (settings : Settings) (codec : Meaning) (sender : Sender) (h : List Event) (origins : List Origin) (g first : ℕ) : Type 0 where
+pub record Follows (settings : Settings) (codec : Meaning) (sender : Sender) (h : List Event) (origins : List Origin)
+    (g first : ℕ) : Type 0 where
   pub run : Run
   pub pulled : Contains (latest (snapshots settings codec h)).pulled run
-  pub numbered : HasNumbers sender (taken settings codec h origins) g run.first run.last
+  pub numbered : HasNumbers sender (packets_taken settings codec h origins) g run.first run.last
   pub evident : (n : ℕ) → run.last < n → n < first → is_passed (latest (snapshots settings codec h)).front n ≡ true
 
 -- it is ready if, besides, it follows each of its rule references: a keyframe has none
-pub record Ready (settings : Settings) (codec : Meaning) (sender : Sender) (h : List Event) (origins : List Origin) (f : ℕ) : Type 0 where
+pub record Ready (settings : Settings) (codec : Meaning) (sender : Sender) (h : List Event) (origins : List Origin)
+    (f : ℕ) : Type 0 where
   pub complete : StandsComplete settings codec sender h origins f
   pub follows : (g : ℕ) → IsRuleReference sender f g → Follows settings codec sender h origins g complete.first

@@ -1,7 +1,8 @@
 -- In which octets a sender's packet travels, and what it brings to the receiver.
 use Rattle.std.specs.Prelude.{◌≡◌, ◌⊎◌, ◌≤◌, ℕ, List, [], length, Some}
 use Rattle.vrx_num.specs.declared.limits.TheConstants.{MOST_OCTETS}
-use Rattle.vrx_rtp.specs.Packet.{Packet, AreOctets}
+use Rattle.vrx_rtp.specs.Packet.{Packet}
+use Rattle.vrx_num.specs.Octets.{AreOctets}
 use Rattle.vrx_rtp.specs.Reading.{read}
 use Rattle.vrx_window.specs.Content.{Content}
 use Rattle.vrx_window.specs.Content as contents
@@ -37,6 +38,6 @@ IsWireForm settings wire (Media frame part text) octets = (octets ≡ text) ⊎ 
 IsWireForm settings wire Empty octets = IsEmptyPacket settings wire octets
 
 -- what a sender's packet brings: a media packet its text
-abbrev pub brought_by : SentPacket → Content
-brought_by (Media frame part text) = contents.Media text
-brought_by Empty = contents.Empty
+abbrev pub content_sent : SentPacket → Content
+content_sent (Media frame part text) = contents.Media text
+content_sent Empty = contents.Empty

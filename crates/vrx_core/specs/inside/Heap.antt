@@ -8,8 +8,8 @@ use Rattle.vrx_num.specs.declared.limits.TheConstants.{WINDOW}
 use Rattle.vrx_core.specs.relation.Order.{rises_by, sorted_by}
 
 -- the order of a heap whose top is the least
-abbrev pub reversed : Reverse ℕ → Reverse ℕ → Ordering
-reversed x y = nat_cmp y.0 x.0
+abbrev pub reverse_order : Reverse ℕ → Reverse ℕ → Ordering
+reverse_order x y = nat_cmp y.0 x.0
 
 -- the numbers of a heap, in their order
 abbrev pub numbers_of : List (Reverse ℕ) → List ℕ
@@ -17,6 +17,6 @@ numbers_of items = sorted_by (λ x. x.0) items
 
 -- what a heap holds is in its order; the numbers rise, so that none stands twice; and there is room for 2,048
 pub record IsLeastFirst (items : List (Reverse ℕ)) (capacity : ℕ) : Type 0 where
-  pub ordered : IsHeap reversed items
+  pub ordered : IsHeap reverse_order items
   pub rise : rises_by (λ n. n) (numbers_of items) ≡ true
   pub room : WINDOW ≤ capacity

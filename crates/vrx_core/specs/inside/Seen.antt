@@ -9,32 +9,34 @@ use Rattle.vrx_codec.specs.Meaning.{Meaning}
 use Rattle.vrx_window.specs.Content.{Content, Media, Empty}
 use Rattle.vrx_core.specs.machine.Text.{packet_text}
 use Rattle.vrx_core.specs.machine.Original.{Original}
-use Rattle.vrx_core.specs.declared.original.Seen.{Seen}
-use Rattle.vrx_core.specs.declared.original.Brought.{Brought}
-use Rattle.vrx_core.specs.declared.original.Brought.TheVariants as brings
-use Rattle.vrx_core.specs.declared.verdict.Taken.{Taken}
+use Rattle.vrx_core.specs.declared.original.PacketSeen.{PacketSeen}
+use Rattle.vrx_core.specs.declared.original.PayloadSeen.{PayloadSeen}
+use Rattle.vrx_core.specs.declared.original.PayloadSeen.TheVariants as brings
+use Rattle.vrx_core.specs.declared.verdict.TakenPacket.{TakenPacket}
 
 -- what a packet with this text brings
-abbrev pub view_brought : List ℕ → Brought → Content
+abbrev pub view_brought : List ℕ → PayloadSeen → Content
 view_brought text (brings.Media part) = Media text
 view_brought text brings.Empty = Empty
 
 -- the packet of the stream, without where it lies in memory
-abbrev pub view_original : Seen → Original
-view_original seen = record { wire = seen.packet.seq; content = view_brought (packet_text (view seen.packet)) seen.brought }
+abbrev pub view_original : PacketSeen → Original
+view_original seen =
+    record { wire = seen.packet.seq; content = view_brought (packet_text (view seen.packet)) seen.brought }
 
 -- a payload says what was seen in it
-abbrev pub Says : Meaning → List ℕ → Brought → Type 0
-Says codec payload (brings.Media part) = (payload ≢ []) × (codec.read payload ≡ Ok (view_part part)) × (part.layers ≡ None) × (length part.body.now ≤ length payload)
+abbrev pub Says : Meaning → List ℕ → PayloadSeen → Type 0
+Says codec payload (brings.Media part) = (payload ≢ []) × (codec.read payload ≡ Ok (view_part part))
+    × (part.layers ≡ None) × (length part.body.now ≤ length payload)
 Says codec payload brings.Empty = payload ≡ []
 
 -- octets are this packet, and its payload says what was seen in it
-pub record IsSeen (codec : Meaning) (octets : List ℕ) (seen : Seen) : Type 0 where
+pub record IsSeen (codec : Meaning) (octets : List ℕ) (seen : PacketSeen) : Type 0 where
   pub size : length octets ≤ MOST_OCTETS
   pub reads : read octets ≡ Some (view seen.packet)
   pub grammar : IsPacket octets (view seen.packet)
   pub says : Says codec seen.packet.payload.now seen.brought
 
 -- what a datagram is taken as: its number, and what it brings
-abbrev pub view_taken : Taken → ℕ × Content
+abbrev pub view_taken : TakenPacket → ℕ × Content
 view_taken taken = (taken.number, (view_original taken.seen).content)

@@ -9,7 +9,7 @@ use Rattle.vrx_num.specs.declared.limits.TheConstants.{WINDOW}
 use Rattle.vrx_asks.specs.Asks.{are_below, asked_numbers, asks_left, beyond, given_up_numbers, with_missing, without}
 use Rattle.vrx_asks.specs.KeyAsk.{is_outstanding}
 use Rattle.vrx_asks.specs.declared.ask.Ask.{Ask}
-use Rattle.vrx_window.specs.Window.{Contents, given_up, is_dead, is_inside, newest_with, would_of}
+use Rattle.vrx_window.specs.Window.{Contents, after_giving_up, is_dead, is_inside, newest_with, would_of}
 use Rattle.vrx_window.specs.declared.held.Held.{Held}
 use Rattle.vrx_window.specs.declared.placing.Placing.TheVariants.{Fresh}
 use Rattle.vrx_frames.specs.Run.{is_passed}
@@ -20,17 +20,20 @@ use Rattle.vrx_core.specs.declared.reply.Frame.{Frame}
 
 -- the numbers that are given up once n is placed
 abbrev pub lost_from : Contents Held → Option ℕ → ℕ → List ℕ
-lost_from window front n = filter (λ m. not (is_passed front m) && not (is_dead m window.dead)) (numbers_left window.first window.newest (Some (newest_with window.newest n)))
+lost_from window front n =
+    filter (λ m. not (is_passed front m) && not (is_dead m window.dead))
+    (numbers_left window.first window.newest (Some (newest_with window.newest n)))
 
 -- these numbers can be given up, one after the other
 abbrev pub CanGiveUpAll : List ℕ → Contents Held → Type 0
 CanGiveUpAll [] window = Unit {0}
-CanGiveUpAll (n ∷ ns) window = (is_inside window.newest n ≡ true) × (would_of window n ≡ Fresh) × CanGiveUpAll ns (given_up n window)
+CanGiveUpAll (n ∷ ns) window =
+    (is_inside window.newest n ≡ true) × (would_of window n ≡ Fresh) × CanGiveUpAll ns (after_giving_up n window)
 
 -- the window after these numbers were given up, one after the other
 abbrev pub given_up_all : List ℕ → Contents Held → Contents Held
 given_up_all [] window = window
-given_up_all (n ∷ ns) window = given_up_all ns (given_up n window)
+given_up_all (n ∷ ns) window = given_up_all ns (after_giving_up n window)
 
 -- the greater of two numbers, if there are any
 abbrev pub later_of : (one other : Option ℕ) → Option ℕ
@@ -59,11 +62,13 @@ gap_of newest n = numbers_below (gap_from newest (newest_with newest n)) (newest
 -- the missing numbers, once a packet was taken
 abbrev pub asks_taken : (now : ℕ) → Arrival → Option ℕ → List Ask → List Ask
 asks_taken now arrival front asks =
-    with_all_missing now (gap_of arrival.newest arrival.number) (beyond_front front (beyond (newest_with arrival.newest arrival.number - WINDOW) (without arrival.number asks)))
+    with_all_missing now (gap_of arrival.newest arrival.number)
+    (beyond_front front (beyond (newest_with arrival.newest arrival.number - WINDOW) (without arrival.number asks)))
 
 -- n isn't answered by keyframes that begin at these numbers, if there are any
 abbrev pub is_open : (standing pulled : Option ℕ) → ℕ → Bool
-is_open standing pulled n = not (option_map_or (λ key. nat_lt n key) standing false) && not (option_map_or (λ key. nat_lt n key) pulled false)
+is_open standing pulled n =
+    not (option_map_or (λ key. nat_lt n key) standing false) && not (option_map_or (λ key. nat_lt n key) pulled false)
 
 -- some number was given up that isn't answered, if this is the greatest one
 abbrev pub is_lost_open : (standing pulled lost : Option ℕ) → Bool
@@ -88,12 +93,14 @@ wanted_taken now arrival front key wanted = record {
   lost = later_of arrival.lost wanted.lost;
   key_pulled = wanted.key_pulled;
   keyed = wanted.keyed || arrival.key;
-  key_asked = key_after now (is_lost_open key wanted.key_pulled arrival.lost) (open_after arrival.key wanted.key_asked);
+  key_asked =
+      key_after now (is_lost_open key wanted.key_pulled arrival.lost) (open_after arrival.key wanted.key_asked);
 }
 
 -- whether it asks for a keyframe
 abbrev pub key_taken : (now : ℕ) → Arrival → (key : Option ℕ) → Wanted → Bool
-key_taken now arrival key wanted = asks_key now (is_lost_open key wanted.key_pulled arrival.lost) (open_after arrival.key wanted.key_asked)
+key_taken now arrival key wanted =
+    asks_key now (is_lost_open key wanted.key_pulled arrival.lost) (open_after arrival.key wanted.key_asked)
 
 -- the last of numbers, if there is one
 abbrev pub last_of : List ℕ → Option ℕ
@@ -105,7 +112,8 @@ lost_ticked now interval wanted = later_of (last_of (given_up_numbers now interv
 
 -- whether there is need of a keyframe after a tick
 abbrev pub needs_key : (now interval : ℕ) → (started : Bool) → (key : Option ℕ) → Wanted → Bool
-needs_key now interval started key wanted = is_lost_open key wanted.key_pulled (lost_ticked now interval wanted) || (started && not wanted.keyed)
+needs_key now interval started key wanted =
+    is_lost_open key wanted.key_pulled (lost_ticked now interval wanted) || (started && not wanted.keyed)
 
 -- what is wanted after a tick
 abbrev pub wanted_ticked : (now interval : ℕ) → (started : Bool) → (key : Option ℕ) → Wanted → Wanted
@@ -126,7 +134,8 @@ wanted_pulled front key first wanted = record wanted {
 
 -- each missing number is below the newest, and may be placed
 abbrev pub AreFresh : Contents Held → List Ask → Type 0
-AreFresh window asks = All (λ ask. IsSomeAnd window.newest (λ newest. ask.number < newest) × (would_of window ask.number ≡ Fresh)) asks
+AreFresh window asks =
+    All (λ ask. IsSomeAnd window.newest (λ newest. ask.number < newest) × (would_of window ask.number ≡ Fresh)) asks
 
 -- the same, without what the window has
 abbrev pub AreBelow : Option ℕ → List Ask → Type 0

@@ -32,7 +32,8 @@ MissingHolds = (settings : Settings) (codec : Meaning) (h : List Event) (n : ℕ
 
 -- no number is asked for more than ten times
 abbrev pub FewRequestsHold : Type 0
-FewRequestsHold = (settings : Settings) (codec : Meaning) (h : List Event) (n : ℕ) → length (requests (snapshots settings codec h) n) ≤ MOST_REQUESTS
+FewRequestsHold = (settings : Settings) (codec : Meaning) (h : List Event) (n : ℕ) →
+    length (requests (snapshots settings codec h) n) ≤ MOST_REQUESTS
 
 -- of moments, the newest first, each is at least this much later than the one before it
 abbrev pub AreApart : ℕ → List ℕ → Type 0
@@ -42,7 +43,8 @@ AreApart interval (later ∷ earlier ∷ more) = (earlier + interval ≤ later) 
 
 -- two requests of a number lie at least the interval apart
 abbrev pub RequestsApartHold : Type 0
-RequestsApartHold = (settings : Settings) (codec : Meaning) (h : List Event) (n : ℕ) → AreApart settings.interval (requests (snapshots settings codec h) n)
+RequestsApartHold = (settings : Settings) (codec : Meaning) (h : List Event) (n : ℕ) →
+    AreApart settings.interval (requests (snapshots settings codec h) n)
 
 -- what an event asks for is missing after it: it isn't available, not passed, and not given up
 abbrev pub AskedAreMissingHolds : Type 0
@@ -51,14 +53,17 @@ AskedAreMissingHolds = (settings : Settings) (codec : Meaning) (h : List Event) 
 
 -- a number that was given up stays so after one event more, and no datagram is taken under it
 abbrev pub LostStaysHolds : Type 0
-LostStaysHolds = (settings : Settings) (codec : Meaning) (h : List Event) (n : ℕ) → is_lost (snapshots settings codec h) n ≡ true
+LostStaysHolds =
+    (settings : Settings) (codec : Meaning) (h : List Event) (n : ℕ) → is_lost (snapshots settings codec h) n ≡ true
     → ((e : Event) → is_lost (snapshots settings codec (e ∷ h)) n ≡ true)
-    × ((octets : List ℕ) (content : Content) → verdict settings codec (latest (snapshots settings codec h)).window octets ≢ Ok (n, content))
+    × ((octets : List ℕ) (content : Content) →
+    verdict settings codec (latest (snapshots settings codec h)).window octets ≢ Ok (n, content))
 
 -- of two events that ask for a keyframe the later comes at least 300 ms after the earlier, unless a keyframe completed
 -- after the earlier, up to the later
 abbrev pub KeyRequestsApartHold : Type 0
-KeyRequestsApartHold = (settings : Settings) (codec : Meaning) (h : List Event) (newer between older : List Snapshot) (s t : Snapshot)
+KeyRequestsApartHold =
+    (settings : Settings) (codec : Meaning) (h : List Event) (newer between older : List Snapshot) (s t : Snapshot)
     → snapshots settings codec h ≡ newer ++ s ∷ between ++ t ∷ older → s.key_asked ≡ true → t.key_asked ≡ true
     → (t.now + KEY_REQUEST_WAIT ≤ s.now) ⊎ Any (λ u. u.key_completed ≡ true) (s ∷ between)
 

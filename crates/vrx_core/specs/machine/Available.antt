@@ -11,7 +11,8 @@ use Rattle.vrx_core.specs.declared.event.Event.{Event}
 use Rattle.vrx_core.specs.declared.event.Event.TheVariants.{Datagram}
 
 -- in a history a datagram was taken under the number n, and brought this
-pub record WasTaken (settings : Settings) (codec : Meaning) (h : List Event) (n : ℕ) (content : Content) : Type 0 where
+pub record WasTaken (settings : Settings) (codec : Meaning) (h : List Event) (n : ℕ)
+    (content : Content) : Type 0 where
   -- the events before the datagram, and those after it
   pub before : List Event
   pub moment : ℕ

@@ -8,4 +8,5 @@ use Rattle.vrx_core.specs.declared.event.Event.{Event}
 
 -- after each history the machine's clock is the greatest moment of its events, whatever the settings and the codec
 abbrev pub ClockHolds : Type 0
-ClockHolds = (settings : Settings) (codec : Meaning) (h : List Event) → (latest (snapshots settings codec h)).now ≡ now h
+ClockHolds =
+    (settings : Settings) (codec : Meaning) (h : List Event) → (latest (snapshots settings codec h)).now ≡ now h

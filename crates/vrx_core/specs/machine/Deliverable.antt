@@ -9,7 +9,8 @@ is_evident pulled front run = is_some pulled && is_passed front (run.first - 1)
 -- a run is deliverable if it stands, and is a keyframe, or has no layers and follows the last frame pulled; pulled is
 -- the last number of that frame
 abbrev pub is_deliverable : (pulled front : Option ℕ) → Run → Bool
-is_deliverable pulled front run = stands pulled run && (run.key || (is_none run.layers && is_evident pulled front run))
+is_deliverable pulled front run =
+    stands pulled run && (run.key || (is_none run.layers && is_evident pulled front run))
 
 -- the run with the lesser first number
 abbrev pub lesser : Run → Option Run → Run

@@ -22,10 +22,12 @@ numbers_below from below = numbers_from from (below - from)
 
 -- the numbers from the first one taken on that are at most newest - 2,048, and weren't before
 abbrev pub numbers_left : (first before after : Option ℕ) → List ℕ
-numbers_left (Some first) (Some before) (Some after) = numbers_below (max first (before + 1 - WINDOW)) (after + 1 - WINDOW)
+numbers_left (Some first) (Some before) (Some after) =
+    numbers_below (max first (before + 1 - WINDOW)) (after + 1 - WINDOW)
 numbers_left _ _ _ = []
 
 -- A datagram that is taken gives up the numbers that leave the window, from the first one taken on, unless they are
 -- passed or were given up before.
 abbrev pub lost_by_packet : List Snapshot → Snapshot → List ℕ
-lost_by_packet past s = filter (λ n. not (is_passed s.front n) && not (is_lost past n)) (numbers_left s.window.first (latest past).window.newest s.window.newest)
+lost_by_packet past s = filter (λ n. not (is_passed s.front n) && not (is_lost past n))
+    (numbers_left s.window.first (latest past).window.newest s.window.newest)

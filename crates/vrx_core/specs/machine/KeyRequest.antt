@@ -17,7 +17,8 @@ is_answered s n = has_key_beyond s.standing n || has_key_beyond s.pulled n
 -- a keyframe completes with an event if it stands after the event, and didn't before. At most one run begins at a
 -- number.
 abbrev pub completes_key : (before after : List Run) → Bool
-completes_key before after = list_any (λ run. run.key && not (list_any (λ other. other.first == run.first) before)) after
+completes_key before after =
+    list_any (λ run. run.key && not (list_any (λ other. other.first == run.first) before)) after
 
 -- the moment at which a keyframe was last asked for, if none completed after that
 abbrev pub open_request : List Snapshot → Option ℕ
@@ -31,7 +32,8 @@ still_open s past = if s.key_completed then None else open_request past
 -- there is need of a keyframe if some number that was given up isn't answered, or if a packet was taken and no keyframe
 -- ever completed
 abbrev pub is_needed : List Snapshot → Bool
-is_needed past = list_any (λ n. not (is_answered (latest past) n)) (all_lost past) || (is_some (latest past).window.newest && not (list_any (λ s. s.key_completed) past))
+is_needed past = list_any (λ n. not (is_answered (latest past) n)) (all_lost past)
+    || (is_some (latest past).window.newest && not (list_any (λ s. s.key_completed) past))
 
 -- an event asks for a keyframe if it wants one, unless a request is outstanding
 abbrev pub with_key_request : Bool → List Snapshot → Snapshot → Snapshot

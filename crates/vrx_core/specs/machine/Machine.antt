@@ -7,7 +7,7 @@ use Rattle.vrx_rtcp.specs.declared.feedback.Feedback.{Feedback}
 use Rattle.vrx_codec.specs.Meaning.{Meaning}
 use Rattle.vrx_window.specs.Content.{Content}
 use Rattle.vrx_window.specs.Content as contents
-use Rattle.vrx_window.specs.Window.{Contents, placed, with_number}
+use Rattle.vrx_window.specs.Window.{Contents, after_placing, with_number}
 use Rattle.vrx_frames.specs.Run.{Run}
 use Rattle.vrx_frames.specs.Front.{front_after}
 pub use Rattle.vrx_core.specs.machine.Snapshot.{Snapshot, opening, latest, times, last_pulled}
@@ -37,11 +37,12 @@ pub data Reply : Type 0 where
   ToPull : (pulled : Pulled) → Reply
 
 -- a snapshot with the front after its event, and the runs that stand then
-abbrev pub settled : Meaning → List Snapshot → Snapshot → Snapshot
-settled codec past s =
+abbrev pub after_settling : Meaning → List Snapshot → Snapshot → Snapshot
+after_settling codec past s =
     let last : Option ℕ = last_pulled s.pulled in
     let front : Option ℕ = front_after s.front last s.window.packets in
-    record s { front = front; standing = standing_of codec (s.window.packets ∷ times past) front last s.window.packets }
+    record s {
+        front = front; standing = standing_of codec (s.window.packets ∷ times past) front last s.window.packets }
 
 -- What a datagram leaves. One that isn't taken moves the clock only. One that is taken is placed; it gives up the
 -- numbers that leave the window, and asks for those that are missing now and weren't asked for; and it asks for a
@@ -50,12 +51,13 @@ abbrev pub with_requests : List Snapshot → Snapshot → Snapshot
 with_requests past s =
     let lost : List ℕ = lost_by_packet past s in
     with_key_request (list_any (λ n. not (is_answered s n)) lost) past
-    (record s { lost = lost; asked = first_requests (s ∷ past); key_completed = completes_key (latest past).standing s.standing })
+    (record s {
+    lost = lost; asked = first_requests (s ∷ past); key_completed = completes_key (latest past).standing s.standing })
 
 abbrev pub after_datagram : Meaning → List Snapshot → ℕ → Result (ℕ × Content) NotTaken → Snapshot
 after_datagram codec past moment (Err left) = moved (latest past) moment
 after_datagram codec past moment (Ok (n, content)) = let s : Snapshot = moved (latest past) moment in
-    with_requests past (settled codec past (record s { window = placed n content s.window }))
+    with_requests past (after_settling codec past (record s { window = after_placing n content s.window }))
 
 -- numbers put in their places among numbers that rise
 abbrev pub with_numbers : List ℕ → List ℕ → List ℕ
@@ -68,14 +70,16 @@ abbrev pub after_tick : Settings → List Snapshot → ℕ → Snapshot
 after_tick settings past moment =
     let s : Snapshot = moved (latest past) moment in
     let lost : List ℕ = lost_by_tick settings.interval s.now past in
-    let after : Snapshot = record s { lost = lost; asked = repeated_requests settings.interval s.now past; window = record s.window { dead = with_numbers lost s.window.dead } } in
+    let after : Snapshot = record s {
+        lost = lost; asked = repeated_requests settings.interval s.now past; window =
+        record s.window { dead = with_numbers lost s.window.dead } } in
     with_key_request (is_needed (after ∷ past)) past after
 
 -- what a pull leaves that gives this run, or none
 abbrev pub after_pull : Meaning → List Snapshot → ℕ → Option Run → Snapshot
 after_pull codec past moment None = moved (latest past) moment
 after_pull codec past moment (Some run) = let s : Snapshot = moved (latest past) moment in
-    settled codec past (record s { pulled = run ∷ s.pulled })
+    after_settling codec past (record s { pulled = run ∷ s.pulled })
 
 -- the run that a pull gives: the least that is deliverable
 abbrev pub next_run : Snapshot → Option Run
@@ -83,7 +87,8 @@ next_run s = answer (last_pulled s.pulled) s.front s.standing
 
 -- what an event leaves
 abbrev pub next : Settings → Meaning → List Snapshot → Event → Snapshot
-next settings codec past (Datagram moment octets) = after_datagram codec past moment (verdict settings codec (latest past).window octets)
+next settings codec past (Datagram moment octets) =
+    after_datagram codec past moment (verdict settings codec (latest past).window octets)
 next settings codec past (Tick moment) = after_tick settings past moment
 next settings codec past (Pull moment) = after_pull codec past moment (next_run (latest past))
 
@@ -143,22 +148,26 @@ IfFrame (pulls.Frame frame) P = P frame
 
 -- the reply to an event that leads from the past to this snapshot
 abbrev pub reply_between : Settings → Meaning → List Snapshot → Snapshot → Event → Reply
-reply_between settings codec past s (Datagram moment octets) = ToDatagram (record { what = what_of (verdict settings codec (latest past).window octets); repaired = repaired_by past s; feedback = feedback_of settings s })
+reply_between settings codec past s (Datagram moment octets) =
+    ToDatagram (record {
+    what = what_of (verdict settings codec (latest past).window octets); repaired = repaired_by past s; feedback =
+    feedback_of settings s })
 reply_between settings codec past s (Tick moment) = ToTick (feedback_of settings s)
 reply_between settings codec past s (Pull moment) = ToPull (pulled_of (next_run (latest past)))
 
 -- one snapshot more
-abbrev pub grown : Settings → Meaning → List Snapshot → Event → List Snapshot
-grown settings codec past e = next settings codec past e ∷ past
+abbrev pub with_next : Settings → Meaning → List Snapshot → Event → List Snapshot
+with_next settings codec past e = next settings codec past e ∷ past
 
 -- what was left after each event of a history, the newest first
 unfoldable pub snapshots : Settings → Meaning → List Event → List Snapshot
 snapshots settings codec [] = opening ∷ []
-snapshots settings codec (e ∷ h) = grown settings codec (snapshots settings codec h) e
+snapshots settings codec (e ∷ h) = with_next settings codec (snapshots settings codec h) e
 
 -- the machine's reply to an event after a history
 unfoldable pub reply : Settings → Meaning → List Event → Event → Reply
-reply settings codec h e = let past : List Snapshot = snapshots settings codec h in reply_between settings codec past (next settings codec past e) e
+reply settings codec h e = let past : List Snapshot =
+    snapshots settings codec h in reply_between settings codec past (next settings codec past e) e
 
 -- the replies to events that follow a history, in order
 unfoldable pub replies : Settings → Meaning → List Event → List Event → List Reply

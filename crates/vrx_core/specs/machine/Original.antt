@@ -41,7 +41,8 @@ abbrev pub original_of : Settings → Meaning → Packet → Result Original Rea
 original_of settings codec packet =
     if not (packet.ssrc == settings.media_ssrc) then Err OtherSsrc
     else if not (packet.pt == settings.media_type) then Err OtherType
-    else result_map_both (λ content. record { wire = packet.seq; content = content }) (λ reason. reason) (content_by codec (packet_text packet) packet.payload)
+    else result_map_both (λ content. record { wire = packet.seq; content = content }) (λ reason. reason)
+    (content_by codec (packet_text packet) packet.payload)
 
 -- why octets are refused that are no packet (RFC 3550 5.1)
 abbrev pub fault_reason : RtpFaultKind → Reason

@@ -11,12 +11,14 @@ use Rattle.vrx_core.specs.declared.event.Event.{Event}
 -- a number that is passed stays passed after one event more, whatever the settings, the codec and the history
 abbrev pub PassedStaysHolds : Type 0
 PassedStaysHolds = (settings : Settings) (codec : Meaning) (h : List Event) (e : Event) (n : ℕ)
-    → is_passed (latest (snapshots settings codec h)).front n ≡ true → is_passed (latest (snapshots settings codec (e ∷ h))).front n ≡ true
+    → is_passed (latest (snapshots settings codec h)).front n ≡ true →
+    is_passed (latest (snapshots settings codec (e ∷ h))).front n ≡ true
 
 -- no number is passed before the first frame is pulled
 abbrev pub NonePassedHolds : Type 0
 NonePassedHolds = (settings : Settings) (codec : Meaning) (h : List Event) (n : ℕ)
-    → (latest (snapshots settings codec h)).pulled ≡ [] → is_passed (latest (snapshots settings codec h)).front n ≡ false
+    → (latest (snapshots settings codec h)).pulled ≡ [] →
+    is_passed (latest (snapshots settings codec h)).front n ≡ false
 
 -- the greater of the front, if there is one, and the last number pulled
 abbrev pub greater_of : Option ℕ → ℕ → ℕ
@@ -25,7 +27,8 @@ greater_of (Some front) last = max front last
 
 -- each number after one number, up to another, is available and no media
 abbrev pub IsOverNoMedia : Packets → (from to : ℕ) → Type 0
-IsOverNoMedia packets from to = (m : ℕ) → from < m → m ≤ to → IsSomeAnd (at m packets) (λ content. is_no_media content ≡ true)
+IsOverNoMedia packets from to =
+    (m : ℕ) → from < m → m ≤ to → IsSomeAnd (at m packets) (λ content. is_no_media content ≡ true)
 
 -- with this front before an event, and this last number pulled and these packets available after it: a number is
 -- passed that is at most the greater of the two, or that is reached from there over available numbers that are no
@@ -37,5 +40,7 @@ IsReached before last packets n = (n ≤ greater_of before last) ⊎ IsOverNoMed
 -- codec and the history
 abbrev pub PassedExactlyHolds : Type 0
 PassedExactlyHolds = (settings : Settings) (codec : Meaning) (h : List Event) (e : Event) (n : ℕ)
-    → let before : Snapshot = latest (snapshots settings codec h) in let after : Snapshot = latest (snapshots settings codec (e ∷ h)) in
-    IfSome (last_pulled after.pulled) (λ last. (is_passed after.front n ≡ true) ↔ IsReached before.front last after.window.packets n)
+    → let before : Snapshot = latest (snapshots settings codec h) in let after : Snapshot =
+        latest (snapshots settings codec (e ∷ h)) in
+    IfSome (last_pulled after.pulled)
+    (λ last. (is_passed after.front n ≡ true) ↔ IsReached before.front last after.window.packets n)

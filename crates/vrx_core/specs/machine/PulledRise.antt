@@ -14,4 +14,5 @@ Rise (run ∷ before) = (run.first ≤ run.last) × IfSome (last_pulled before) 
 
 -- the frames pulled rise, whatever the settings, the codec and the history
 abbrev pub PulledRiseHolds : Type 0
-PulledRiseHolds = (settings : Settings) (codec : Meaning) (h : List Event) → Rise (latest (snapshots settings codec h)).pulled
+PulledRiseHolds =
+    (settings : Settings) (codec : Meaning) (h : List Event) → Rise (latest (snapshots settings codec h)).pulled

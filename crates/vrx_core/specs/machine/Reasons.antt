@@ -1,14 +1,15 @@
 -- When a datagram is taken, and what becomes of it otherwise.
 use Rattle.std.specs.Prelude.{◌≡◌, ◌≢◌, ◌↔◌, ◌⊎◌, ℕ, ◌+◌, ◌<◌, ◌≤◌, true, false, List, [], length, Option, Some, None, IfSome, IsSomeAnd, Result, Ok, Err}
-use Rattle.vrx_num.specs.Extended.{IsHalfAway, extended}
+use Rattle.vrx_num.specs.Extended.{IsHalfAway, extended_number}
 use Rattle.vrx_num.specs.declared.limits.TheConstants.{WINDOW, MOST_OCTETS, HALF_SPACE}
-use Rattle.vrx_rtp.specs.Packet.{Packet, AreOctets}
+use Rattle.vrx_rtp.specs.Packet.{Packet}
+use Rattle.vrx_num.specs.Octets.{AreOctets}
 use Rattle.vrx_rtp.specs.Reading.{reading}
 use Rattle.vrx_rtp.specs.Rtcp.{IsRtcp}
 use Rattle.vrx_rtp.specs.declared.fault.RtpFault.{RtpFault}
 use Rattle.vrx_rtp.specs.declared.fault.RtpFaultKind.{RtpFaultKind}
 use Rattle.vrx_rtp.specs.declared.fault.RtpFaultKind.TheVariants.{Short, Version, CsrcPastEnd, ExtensionPastEnd, PaddingPastEnd}
-use Rattle.vrx_rtcp.specs.Compound.{Spelled, IsCompound, HasFault}
+use Rattle.vrx_rtcp.specs.Compound.{SpelledPacket, IsCompound, HasFault}
 use Rattle.vrx_rtcp.specs.declared.fault.RtcpFault.{RtcpFault}
 use Rattle.vrx_codec.specs.Part.{Part}
 use Rattle.vrx_codec.specs.declared.part.Layers.{Layers}
@@ -88,33 +89,41 @@ MeansAside settings codec octets (Refused TooLong) = MOST_OCTETS < length octets
 -- it is RTCP, and has a fault
 MeansAside settings codec octets (Refused BadRtcp) = IsControl octets × (fault : RtcpFault) × HasFault octets fault
 -- it is RTCP, and packets to its end
-MeansAside settings codec octets Control = IsControl octets × (packets : List Spelled) × IsCompound octets packets
+MeansAside settings codec octets Control =
+    IsControl octets × (packets : List SpelledPacket) × IsCompound octets packets
 -- it is shorter than a header, or its version isn't 2
 MeansAside settings codec octets (Refused NotRtp) = IsMisread octets Short ⊎ IsMisread octets Version
 -- its contributing sources, its extension or its padding run past its end
-MeansAside settings codec octets (Refused BadHeader) = IsMisread octets CsrcPastEnd ⊎ (IsMisread octets ExtensionPastEnd ⊎ IsMisread octets PaddingPastEnd)
+MeansAside settings codec octets (Refused BadHeader) =
+    IsMisread octets CsrcPastEnd ⊎ (IsMisread octets ExtensionPastEnd ⊎ IsMisread octets PaddingPastEnd)
 -- it is a packet of another SSRC
-MeansAside settings codec octets (Refused OtherSsrc) = (packet : Packet) × IsRead octets packet × (packet.ssrc ≢ settings.media_ssrc)
+MeansAside settings codec octets (Refused OtherSsrc) =
+    (packet : Packet) × IsRead octets packet × (packet.ssrc ≢ settings.media_ssrc)
 -- it is a packet of the media SSRC and of another payload type
-MeansAside settings codec octets (Refused OtherType) = (packet : Packet) × IsRead octets packet × (packet.ssrc ≡ settings.media_ssrc) × (packet.pt ≢ settings.media_type)
+MeansAside settings codec octets (Refused OtherType) =
+    (packet : Packet) × IsRead octets packet × (packet.ssrc ≡ settings.media_ssrc) × (packet.pt ≢ settings.media_type)
 -- it is a packet of the stream, and its payload isn't empty and is no part: the codec's reader finds a fault of this
 -- code
-MeansAside settings codec octets (Refused (BadPart code)) = (packet : Packet) × IsOfStream settings octets packet × HasBadPart codec packet.payload code
+MeansAside settings codec octets (Refused (BadPart code)) =
+    (packet : Packet) × IsOfStream settings octets packet × HasBadPart codec packet.payload code
 -- it is a packet of the stream, and its payload is a part that has layers
-MeansAside settings codec octets (Refused Form) = (packet : Packet) × IsOfStream settings octets packet × HasLayers codec packet.payload
+MeansAside settings codec octets (Refused Form) =
+    (packet : Packet) × IsOfStream settings octets packet × HasLayers codec packet.payload
 -- no other answer comes so
 MeansAside settings codec octets (Refused _) = ⊥
 
 -- a datagram is a packet of the stream that brings this
-pub record IsBrought (settings : Settings) (codec : Meaning) (octets : List ℕ) (packet : Packet) (content : Content) : Type 0 where
+pub record IsBrought (settings : Settings) (codec : Meaning) (octets : List ℕ) (packet : Packet)
+    (content : Content) : Type 0 where
   pub stream : IsOfStream settings octets packet
   pub brings : Brings codec packet content
 
 -- it has this extended number
-pub record IsNumbered (settings : Settings) (codec : Meaning) (newest : Option ℕ) (octets : List ℕ) (n : ℕ) (content : Content) : Type 0 where
+pub record IsNumbered (settings : Settings) (codec : Meaning) (newest : Option ℕ) (octets : List ℕ) (n : ℕ)
+    (content : Content) : Type 0 where
   pub packet : Packet
   pub brought : IsBrought settings codec octets packet content
-  pub number : extended newest packet.seq ≡ Some n
+  pub number : extended_number newest packet.seq ≡ Some n
 
 -- a number lies below the window of the newest number
 abbrev pub IsBelow : Option ℕ → ℕ → Type 0
@@ -124,29 +133,40 @@ IsBelow newest n = IsSomeAnd newest (λ m. n + WINDOW ≤ m)
 abbrev pub Means : Settings → Meaning → Contents Content → List ℕ → Result (ℕ × Content) NotTaken → Type 0
 -- the datagram is a packet of the stream, and its wire number lies just half of the number space away from the newest
 -- number
-Means settings codec window octets (Err (Refused TooFar)) = (packet : Packet) × (content : Content) × IsBrought settings codec octets packet content × IsHalfAway window.newest packet.seq
+Means settings codec window octets (Err (Refused TooFar)) = (packet : Packet) × (content : Content)
+    × IsBrought settings codec octets packet content × IsHalfAway window.newest packet.seq
 -- it has an extended number, which lies below the window
-Means settings codec window octets (Err (Refused TooOld)) = (n : ℕ) × (content : Content) × IsNumbered settings codec window.newest octets n content × IsBelow window.newest n
+Means settings codec window octets (Err (Refused TooOld)) =
+    (n : ℕ) × (content : Content) × IsNumbered settings codec window.newest octets n content × IsBelow window.newest n
 -- it has an extended number, which doesn't lie below the window and was given up
-Means settings codec window octets (Err (Refused Dead)) = (n : ℕ) × (content : Content) × IsNumbered settings codec window.newest octets n content × (IsBelow window.newest n → ⊥) × (is_dead n window.dead ≡ true)
+Means settings codec window octets (Err (Refused Dead)) = (n : ℕ) × (content : Content)
+    × IsNumbered settings codec window.newest octets n content × (IsBelow window.newest n → ⊥)
+    × (is_dead n window.dead ≡ true)
 -- it has an extended number, which doesn't lie below the window, wasn't given up and is available
-Means settings codec window octets (Err (Refused Repeat)) = (n : ℕ) × (content : Content) × IsNumbered settings codec window.newest octets n content × (IsBelow window.newest n → ⊥) × (is_dead n window.dead ≡ false) × (is_available n window.packets ≡ true)
+Means settings codec window octets (Err (Refused Repeat)) = (n : ℕ) × (content : Content)
+    × IsNumbered settings codec window.newest octets n content × (IsBelow window.newest n → ⊥)
+    × (is_dead n window.dead ≡ false) × (is_available n window.packets ≡ true)
 -- every other answer comes by the octets themselves
 Means settings codec window octets (Err left) = MeansAside settings codec octets left
 -- it has this extended number and brings this; the number doesn't lie below the window, wasn't given up and isn't
 -- available
-Means settings codec window octets (Ok (n, content)) = IsNumbered settings codec window.newest octets n content × (IsBelow window.newest n → ⊥) × (is_dead n window.dead ≡ false) × (is_available n window.packets ≡ false)
+Means settings codec window octets (Ok (n, content)) = IsNumbered settings codec window.newest octets n content
+    × (IsBelow window.newest n → ⊥) × (is_dead n window.dead ≡ false) × (is_available n window.packets ≡ false)
 
 -- what each answer to a datagram means. It is never answered as FEC
 abbrev pub MeansAnswer : Settings → Meaning → Contents Content → List ℕ → What → Type 0
-MeansAnswer settings codec window octets (whats.Media n) = (text : List ℕ) × Means settings codec window octets (Ok (n, Media text))
+MeansAnswer settings codec window octets (whats.Media n) =
+    (text : List ℕ) × Means settings codec window octets (Ok (n, Media text))
 MeansAnswer settings codec window octets (whats.Empty n) = Means settings codec window octets (Ok (n, Empty))
 MeansAnswer settings codec window octets whats.Rtcp = Means settings codec window octets (Err Control)
-MeansAnswer settings codec window octets (whats.Dropped reason) = Means settings codec window octets (Err (Refused reason))
+MeansAnswer settings codec window octets (whats.Dropped reason) =
+    Means settings codec window octets (Err (Refused reason))
 MeansAnswer settings codec window octets (whats.Fec n) = ⊥
 
 -- a verdict comes exactly if its meaning holds, of octets, each below 256. A newest number of 32,768 or more has
 -- no number below 0 nearer to it than half of the number space
 abbrev pub ReasonsHolds : Type 0
-ReasonsHolds = (settings : Settings) (codec : Meaning) (window : Contents Content) (octets : List ℕ) → AreOctets octets → IfSome window.newest (λ m. HALF_SPACE ≤ m)
-    → (result : Result (ℕ × Content) NotTaken) → (verdict settings codec window octets ≡ result) ↔ Means settings codec window octets result
+ReasonsHolds = (settings : Settings) (codec : Meaning) (window : Contents Content) (octets : List ℕ) →
+    AreOctets octets → IfSome window.newest (λ m. HALF_SPACE ≤ m)
+    → (result : Result (ℕ × Content) NotTaken) →
+    (verdict settings codec window octets ≡ result) ↔ Means settings codec window octets result

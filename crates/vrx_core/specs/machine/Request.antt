@@ -16,7 +16,8 @@ numbers_between _ _ = []
 
 -- of these the missing ones are not available, not passed and not given up
 abbrev pub is_missing : List Snapshot → ℕ → Bool
-is_missing past n = not (is_available n (latest past).window.packets) && not (is_passed (latest past).front n) && not (is_lost past n)
+is_missing past n =
+    not (is_available n (latest past).window.packets) && not (is_passed (latest past).front n) && not (is_lost past n)
 
 -- the missing numbers, in their order
 abbrev pub missing : List Snapshot → List ℕ
@@ -38,8 +39,11 @@ first_requests past = filter (λ n. length (requests past n) == 0) (missing past
 -- A tick asks again for each missing number that was asked for fewer than ten times, and whose last request is at
 -- least the interval old.
 abbrev pub repeated_requests : (interval now : ℕ) → List Snapshot → List ℕ
-repeated_requests interval now past = filter (λ n. nat_lt (length (requests past n)) MOST_REQUESTS && is_old interval now (requests past n)) (missing past)
+repeated_requests interval now past =
+    filter (λ n. nat_lt (length (requests past n)) MOST_REQUESTS && is_old interval now (requests past n))
+    (missing past)
 
 -- It gives up each missing number that was asked for ten times, the last time at least the interval ago.
 abbrev pub lost_by_tick : (interval now : ℕ) → List Snapshot → List ℕ
-lost_by_tick interval now past = filter (λ n. (length (requests past n) == MOST_REQUESTS) && is_old interval now (requests past n)) (missing past)
+lost_by_tick interval now past =
+    filter (λ n. (length (requests past n) == MOST_REQUESTS) && is_old interval now (requests past n)) (missing past)

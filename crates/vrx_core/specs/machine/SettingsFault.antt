@@ -8,19 +8,21 @@ use Rattle.vrx_core.specs.declared.settings.NewFault.{NewFault}
 use Rattle.vrx_core.specs.declared.settings.NewFault.TheVariants.{BadType, SameType, SameSsrc, RedMissing, BadInterval, Later, NoMemory}
 
 -- the values that are there, of some that may be given
-abbrev pub given : List (Option ℕ) → List ℕ
-given values = filter_map (λ value. value) values
+abbrev pub values_in : List (Option ℕ) → List ℕ
+values_in values = filter_map (λ value. value) values
 
 -- the payload types given: those of media, RED, FEC, and of media and RED in RTX packets
 abbrev pub types_of : Settings → List ℕ
-types_of settings = given (
+types_of settings = values_in (
     Some settings.media_type
     ∷ option_map (λ red. red.red_type) settings.red ∷ option_and_then (λ red. red.fec_type) settings.red
-    ∷ option_map (λ rtx. rtx.media_rtx_type) settings.rtx ∷ option_and_then (λ rtx. rtx.red_rtx_type) settings.rtx ∷ [])
+    ∷ option_map (λ rtx. rtx.media_rtx_type) settings.rtx ∷ option_and_then (λ rtx. rtx.red_rtx_type) settings.rtx
+    ∷ [])
 
 -- the SSRCs given: those of media, of RTX, and of this receiver
 abbrev pub ssrcs_of : Settings → List ℕ
-ssrcs_of settings = given (Some settings.media_ssrc ∷ option_map (λ rtx. rtx.ssrc) settings.rtx ∷ Some settings.from_ssrc ∷ [])
+ssrcs_of settings =
+    values_in (Some settings.media_ssrc ∷ option_map (λ rtx. rtx.ssrc) settings.rtx ∷ Some settings.from_ssrc ∷ [])
 
 -- a payload type is 64 to 95, which RTCP takes on a shared port (RFC 5761 4), or has more than seven bits
 abbrev pub IsBadType : ℕ → Type 0
@@ -56,9 +58,12 @@ abbrev pub IsFault : Settings → NewFault → Type 0
 IsFault settings BadType = Says settings BadType
 IsFault settings SameType = (¬ Says settings BadType) × Says settings SameType
 IsFault settings SameSsrc = (¬ Says settings BadType) × (¬ Says settings SameType) × Says settings SameSsrc
-IsFault settings RedMissing = (¬ Says settings BadType) × (¬ Says settings SameType) × (¬ Says settings SameSsrc) × Says settings RedMissing
-IsFault settings BadInterval = (¬ Says settings BadType) × (¬ Says settings SameType) × (¬ Says settings SameSsrc) × (¬ Says settings RedMissing) × Says settings BadInterval
-IsFault settings Later = (¬ Says settings BadType) × (¬ Says settings SameType) × (¬ Says settings SameSsrc) × (¬ Says settings RedMissing) × (¬ Says settings BadInterval) × Says settings Later
+IsFault settings RedMissing =
+    (¬ Says settings BadType) × (¬ Says settings SameType) × (¬ Says settings SameSsrc) × Says settings RedMissing
+IsFault settings BadInterval = (¬ Says settings BadType) × (¬ Says settings SameType) × (¬ Says settings SameSsrc)
+    × (¬ Says settings RedMissing) × Says settings BadInterval
+IsFault settings Later = (¬ Says settings BadType) × (¬ Says settings SameType) × (¬ Says settings SameSsrc)
+    × (¬ Says settings RedMissing) × (¬ Says settings BadInterval) × Says settings Later
 IsFault settings NoMemory = ⊥
 
 -- the same, as tests

@@ -3,16 +3,16 @@ use Rattle.std.specs.Prelude.{◌≡◌, ℕ, Bool, if◌then◌else◌, List, [
 use Rattle.std.specs.List.{filter, list_any}
 use Rattle.vrx_asks.specs.declared.ask.Ask.{Ask}
 use Rattle.vrx_codec.specs.Meaning.{Meaning}
-use Rattle.vrx_codec.specs.declared.run.Run.{Run as RunTold}
+use Rattle.vrx_codec.specs.declared.run.Run.{Run as RunSummary}
 use Rattle.vrx_window.specs.Content.{contents_of}
 use Rattle.vrx_window.specs.Window.{Contents}
 use Rattle.vrx_window.specs.declared.held.Held.{Held}
-use Rattle.vrx_frames.specs.Run.{Packets, Run, told_of}
+use Rattle.vrx_frames.specs.Run.{Packets, Run, summary_of}
 use Rattle.vrx_frames.specs.Shape.{shape_of}
 use Rattle.vrx_frames.specs.Completed.{Known}
 use Rattle.vrx_frames.specs.declared.shape.Shape.{Shape}
 use Rattle.vrx_core.specs.machine.History.{now}
-use Rattle.vrx_core.specs.machine.Standing.{began_behind}
+use Rattle.vrx_core.specs.machine.Standing.{began_after_end}
 use Rattle.vrx_core.specs.machine.GivenUp.{all_lost}
 use Rattle.vrx_core.specs.machine.Request.{missing, requests}
 use Rattle.vrx_core.specs.machine.KeyRequest.{open_request}
@@ -29,7 +29,7 @@ pub record Assembly : Type 0 where
   pub clock : ℕ
   pub window : Contents Held
   pub known : Known
-  pub frames : List RunTold
+  pub frames : List RunSummary
   pub last_pulled : Option ℕ
   pub front : Option ℕ
 
@@ -44,14 +44,14 @@ shapes_of codec packets = map (λ entry. (entry.0, shape_of codec entry.1)) pack
 -- what is known of numbers is what the machine's past gives: all available numbers are known; and of them those that
 -- ever stood right after the end of a frame
 pub record KnowsPast (codec : Meaning) (known : Known) (past : List Snapshot) : Type 0 where
-  pub told : known.told ≡ shapes_of codec (latest past).window.packets
-  pub began : known.began ≡ filter (began_behind (times past)) (numbers_of (latest past).window.packets)
+  pub arrivals : known.arrivals ≡ shapes_of codec (latest past).window.packets
+  pub began : known.began ≡ filter (began_after_end (times past)) (numbers_of (latest past).window.packets)
 
 -- each part has the value that the machine gives it, of what was left after each event
 pub record StandsIn (codec : Meaning) (parts : Assembly) (past : List Snapshot) : Type 0 where
   pub window : contents_of parts.window ≡ (latest past).window
   pub known : KnowsPast codec parts.known past
-  pub frames : parts.frames ≡ map told_of (latest past).standing
+  pub frames : parts.frames ≡ map summary_of (latest past).standing
   pub last_pulled : parts.last_pulled ≡ last_pulled (latest past).pulled
   pub front : parts.front ≡ (latest past).front
 
@@ -92,19 +92,19 @@ pub record WantsIn (wanted : Wanted) (past : List Snapshot) : Type 0 where
   pub key_asked : wanted.key_asked ≡ open_request past
 
 -- an engine: what it assembles, and what it wants
-pub record Parts : Type 0 where
+pub record EngineParts : Type 0 where
   pub settings : Settings
   pub events : ℕ
   pub clock : ℕ
   pub window : Contents Held
   pub known : Known
-  pub frames : List RunTold
+  pub frames : List RunSummary
   pub last_pulled : Option ℕ
   pub front : Option ℕ
   pub wanted : Wanted
 
 -- what an engine assembles
-abbrev pub assembly_in : Parts → Assembly
+abbrev pub assembly_in : EngineParts → Assembly
 assembly_in parts = record {
   settings = parts.settings;
   events = parts.events;
@@ -117,7 +117,7 @@ assembly_in parts = record {
 }
 
 -- an engine of an assembly and of what is wanted
-abbrev pub parts_of : Assembly → Wanted → Parts
+abbrev pub parts_of : Assembly → Wanted → EngineParts
 parts_of assembly wanted = record {
   settings = assembly.settings;
   events = assembly.events;
@@ -131,6 +131,6 @@ parts_of assembly wanted = record {
 }
 
 -- an engine stands for a history
-pub record StandsFor (codec : Meaning) (parts : Parts) (h : List Event) : Type 0 where
+pub record StandsFor (codec : Meaning) (parts : EngineParts) (h : List Event) : Type 0 where
   pub assembled : IsAssembled codec (assembly_in parts) h
   pub wants : WantsIn parts.wanted (snapshots parts.settings codec h)

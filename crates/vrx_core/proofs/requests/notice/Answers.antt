@@ -9,12 +9,15 @@ pub loop-n-preserved : goal.loop-n-preserved
 loop-n-preserved c =
     let less = c.loop-n-test.true in
     record {
-      asks = ap (λ asks. with_all_missing c.args.now (numbers_below (c.loop-n.n + 1) c.args.below) asks) c.noticed.ensures.noticed
+      asks = ap (λ asks. with_all_missing c.args.now (numbers_below (c.loop-n.n + 1) c.args.below) asks)
+          c.noticed.ensures.noticed
           ∙ noticed-asks c.args.now c.loop-n.n c.args.below c.loop-n.asks less ∙ c.loop-n.invariant.asks;
       numbers = ap (λ ns. ns ++ numbers_below (c.loop-n.n + 1) c.args.below) c.push.ensures.items
           ∙ noticed-numbers c.loop-n.n c.args.below c.loop-n.numbers.items less ∙ c.loop-n.invariant.numbers;
-      above = ap (are_below (c.loop-n.n + 1)) c.noticed.ensures.noticed ∙ below-more c.loop-n.n c.args.now c.loop-n.asks c.loop-n.invariant.above;
+      above = ap (are_below (c.loop-n.n + 1)) c.noticed.ensures.noticed
+          ∙ below-more c.loop-n.n c.args.now c.loop-n.asks c.loop-n.invariant.above;
       near = ap (is_near (c.args.below - 1)) c.noticed.ensures.noticed
-          ∙ near-more c.loop-n.n c.args.now (c.args.below - 1) c.loop-n.asks (omega (arith, c.requires.few, c.loop-n.invariant.count, less)) c.loop-n.invariant.near;
+          ∙ near-more c.loop-n.n c.args.now (c.args.below - 1) c.loop-n.asks
+          (omega (arith, c.requires.few, c.loop-n.invariant.count, less)) c.loop-n.invariant.near;
       count = omega (arith, c.push.ensures.len, c.loop-n.invariant.count);
     }

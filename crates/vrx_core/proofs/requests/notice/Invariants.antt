@@ -7,7 +7,8 @@ use Rattle.vrx_core.proofs.requests.notice.Given as goal
 -- the numbers up to here were noticed, and those after them are to be
 abbrev pub invariant-loop-n : goal.invariant-loop-n
 invariant-loop-n l = record {
-  asks : with_all_missing l.now (numbers_below l.n l.below) l.asks ≡ with_all_missing l.now (numbers_below l.from l.below) l.initial.asks;
+  asks : with_all_missing l.now (numbers_below l.n l.below) l.asks ≡ with_all_missing l.now
+      (numbers_below l.from l.below) l.initial.asks;
   numbers : l.numbers.items ++ numbers_below l.n l.below ≡ numbers_below l.from l.below;
   above : are_below l.n l.asks ≡ true;
   near : is_near (l.below - 1) l.asks ≡ true;

@@ -8,5 +8,7 @@ pub returns-then-ends_at-clause-entries : goal.returns-then-ends_at-clause-entri
 returns-then-ends_at-clause-entries c =
     let ring = c.args.ring.now in
     let here = sym c.get.ensures.value ∙ sym c.in-Some.ensures in
-    remember-placed c.args.n (newest_with ring.newest c.args.n) c.in-Some.told ring c.place.new.self.entries c.requires.numbered (newest-kept ring c.args.n c.in-Some.told c.requires.numbered here) here
+    remember-placed c.args.n
+    (newest_with ring.newest c.args.n) c.in-Some.arrival ring c.place.new.self.entries c.requires.numbered
+    (newest-kept ring c.args.n c.in-Some.arrival c.requires.numbered here) here
     (ap (ends_at ring.entries) (sym c.saturating_sub.ensures) ∙ sym c.if-ends_at.ensures) c.place.ensures.entries

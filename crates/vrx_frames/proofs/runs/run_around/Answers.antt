@@ -9,4 +9,6 @@ judge-requires-clause-media g c = λ n from below.
     c.requires.held n sits.fact sits.told
 
 pub judge-requires-clause-few : goal.judge-requires-clause-few
-judge-requires-clause-few g c = whole-few c.args.passed c.args.ring.now c.in-Some.span.ts c.in-Some.span.first c.in-Some.span.last c.requires.numbered c.in-Some.ensures.found.0
+judge-requires-clause-few g c =
+    whole-few c.args.passed c.args.ring.now c.in-Some.span.ts c.in-Some.span.first c.in-Some.span.last
+    c.requires.numbered c.in-Some.ensures.found.0

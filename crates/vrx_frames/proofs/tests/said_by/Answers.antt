@@ -14,7 +14,8 @@ returns-in-None g c = record {
   unpadded = omega arith;
   marker_is = refl;
   ts_is = refl;
-  payload = λ e. true≢false (sym (eq-eqb (length c.in-Ok.packet.payload.now) 0 (ap length e)) ∙ sym c.if-is_empty.ensures);
+  payload =
+      λ e. true≢false (sym (eq-eqb (length c.in-Ok.packet.payload.now) 0 (ap length e)) ∙ sym c.if-is_empty.ensures);
   part_reads = sym c.in-Ok-read_part.ensures.reads;
   start_is = refl;
   key_is = refl;

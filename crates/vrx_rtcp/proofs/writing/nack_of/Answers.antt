@@ -12,10 +12,15 @@ pub returns : goal.returns
 returns c =
     let items = c.items_of-items.result.items in
     let each : take c.loop-item.item-index c.as_slice-item-items.result.now ≡ items =
-    take_all c.loop-item.item-index c.as_slice-item-items.result.now c.loop-item-test.false ∙ c.as_slice-item-items.ensures.value in
+    take_all c.loop-item.item-index c.as_slice-item-items.result.now c.loop-item-test.false
+    ∙ c.as_slice-item-items.ensures.value in
     record {
       octets = c.loop-item.invariant.made
-          ∙ ap (λ (x : List Item). feedback_head FMT_NACK RTPFB (2 + c.len.result) c.args.from_ssrc c.args.media_ssrc ++ flat_map octets_of x) each
-          ∙ nack-made c.args.from_ssrc c.args.media_ssrc (2 + c.len.result) c.args.numbers.now c.split_at.result.1.now items
-          c.requires.some c.split_at.ensures.back c.items_of-items.ensures.items (ap (λ k. 2 + k) c.len.ensures.value);
+          ∙ ap (λ (x : List Item).
+          feedback_head FMT_NACK RTPFB (2 + c.len.result) c.args.from_ssrc c.args.media_ssrc ++ flat_map octets_of x)
+          each
+          ∙ nack-made c.args.from_ssrc c.args.media_ssrc
+          (2 + c.len.result) c.args.numbers.now c.split_at.result.1.now items
+          c.requires.some c.split_at.ensures.back c.items_of-items.ensures.items
+          (ap (λ k. 2 + k) c.len.ensures.value);
     }

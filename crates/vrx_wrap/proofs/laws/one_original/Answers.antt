@@ -1,6 +1,6 @@
 -- The laws of retransmissions.
 use Rattle.vrx_wrap.specs.Rtx.{rtx_of}
-use Rattle.vrx_wrap.proofs.FitLemmas.{fits-rtx, spelled-read}
+use Rattle.vrx_wrap.proofs.FitLemmas.{fits-rtx, octets_of-read}
 use Rattle.vrx_wrap.proofs.RtxLemmas.{original-of, of-original}
 use Rattle.vrx_wrap.proofs.laws.one_original.Goals as goal
 
@@ -9,5 +9,5 @@ returns-clause-one c apt rtx original are = (original-of apt rtx original are, o
 
 pub returns-clause-octets : goal.returns-clause-octets
 returns-clause-octets c rtx_type rtx_ssrc rtx_seq p small source number fits are =
-    spelled-read c.one_reading.ensures.spelled_packet c.one_reading.ensures.read_packet
+    octets_of-read c.one_reading.ensures.spelled_packet c.one_reading.ensures.read_packet
     (rtx_of rtx_type rtx_ssrc rtx_seq p) (fits-rtx rtx_type rtx_ssrc rtx_seq p small source number fits) are

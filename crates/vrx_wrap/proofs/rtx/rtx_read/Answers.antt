@@ -6,7 +6,8 @@ use Rattle.vrx_wrap.proofs.rtx.rtx_read.Goals as goal
 
 pub returns-clause-original : goal.returns-clause-original
 returns-clause-original c =
-    original-read (view_apt c.args.apt.now) (packet_of c.args.view.now) c.original.result c.original.ensures.octets c.original.ensures.reads
+    original-read (view_apt c.args.apt.now)
+    (packet_of c.args.view.now) c.original.result c.original.ensures.octets c.original.ensures.reads
 
 pub returns-clause-no_apt : goal.returns-clause-no_apt
 returns-clause-no_apt c =

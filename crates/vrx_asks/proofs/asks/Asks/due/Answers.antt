@@ -7,11 +7,13 @@ use Rattle.vrx_asks.proofs.asks.Asks.due.Goals as goal
 
 pub settle-requires-clause-room_to_ask : goal.settle-requires-clause-room_to_ask
 settle-requires-clause-room_to_ask c =
-    room-asked c.args.now c.args.interval c.loop-i.invariant.settled (omega (arith, c.len-i-end.ensures)) c.self.invariant.sound.few
+    room-asked c.args.now c.args.interval c.loop-i.invariant.settled
+    (omega (arith, c.len-i-end.ensures)) c.self.invariant.sound.few
 
 pub settle-requires-clause-room_to_give_up : goal.settle-requires-clause-room_to_give_up
 settle-requires-clause-room_to_give_up c =
-    room-given_up c.args.now c.args.interval c.loop-i.invariant.settled (omega (arith, c.len-i-end.ensures)) c.self.invariant.sound.few
+    room-given_up c.args.now c.args.interval c.loop-i.invariant.settled
+    (omega (arith, c.len-i-end.ensures)) c.self.invariant.sound.few
 
 pub loop-i-preserved : goal.loop-i-preserved
 loop-i-preserved c =
@@ -29,7 +31,8 @@ loop-i-preserved c =
       })
     ]
 
-left : (c : goal.After-truncate) → c.truncate.new.self.items ≡ asks_left c.args.now c.args.interval c.self.inside.asks.items
+left : (c : goal.After-truncate) →
+    c.truncate.new.self.items ≡ asks_left c.args.now c.args.interval c.self.inside.asks.items
 left c =
     let end : length c.self.inside.asks.items ≤ c.loop-i.i = omega (arith, c.len-i-end.ensures) in
     c.truncate.ensures.items ∙ front-all c.args.now c.args.interval c.loop-i.invariant.settled end

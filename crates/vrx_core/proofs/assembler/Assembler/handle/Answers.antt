@@ -12,7 +12,8 @@ use Rattle.vrx_core.proofs.assembler.Assembler.handle.Goals as goal
 
 pub take-key-requires-clause-may : goal.take-key-requires-clause-may
 take-key-requires-clause-may g c =
-    subst (λ (p : Assembly). MayBeTaken g.C.Codec.meaning p.window c.in-Ok.taken.number c.in_ok-held-in-Ok.held) c.self.view_is (record {
+    subst (λ (p : Assembly). MayBeTaken g.C.Codec.meaning p.window c.in-Ok.taken.number c.in_ok-held-in-Ok.held)
+    c.self.view_is (record {
       fresh = c.in-Ok.ensures.fresh;
       near = subst (λ o. IsNear o c.in-Ok.taken.number) c.self.invariant.newest c.in-Ok.ensures.reach;
       sound = c.in_ok-held-in-Ok.ensures.sound;
@@ -22,14 +23,26 @@ take-key-requires-clause-may g c =
 pub returns-in_ok-held-in-Ok-clause-handled : goal.returns-in_ok-held-in-Ok-clause-handled
 returns-in_ok-held-in-Ok-clause-handled g c =
     let taken = view_taken c.in-Ok.taken in
-    let may = subst (λ (p : Assembly). MayBeTaken g.C.Codec.meaning p.window c.in-Ok.taken.number c.in_ok-held-in-Ok.held) c.self.view_is (record {
+    let may = subst (λ (p : Assembly).
+        MayBeTaken g.C.Codec.meaning p.window c.in-Ok.taken.number c.in_ok-held-in-Ok.held) c.self.view_is (record {
       fresh = c.in-Ok.ensures.fresh;
       near = subst (λ o. IsNear o c.in-Ok.taken.number) c.self.invariant.newest c.in-Ok.ensures.reach;
       sound = c.in_ok-held-in-Ok.ensures.sound;
       plain = c.in_ok-held-in-Ok.ensures.plain;
     }) in
-    handled-taken g.C.Codec.meaning c.args.self.now c.take-key.new.self c.args.moment c.args.octets.now (record { what = c.answer_taken.result; arrival = Some (record { number = c.in-Ok.taken.number; newest = c.newest-newest.result; lost = c.greatest_lost-lost.result; key = c.take-key.result }) }) c.in-Ok.taken.number taken.1 (record { number = c.in-Ok.taken.number; newest = c.newest-newest.result; lost = c.greatest_lost-lost.result; key = c.take-key.result })
-    (subst (λ (p : Assembly). verdict p.settings g.C.Codec.meaning (contents_of p.window) c.args.octets.now ≡ Ok (c.in-Ok.taken.number, taken.1)) c.self.view_is (c.verdict.ensures.value ∙ ap (result_map_both view_taken (λ left. left)) c.in-Ok.is))
+    handled-taken g.C.Codec.meaning c.args.self.now c.take-key.new.self c.args.moment c.args.octets.now
+    (record {
+    what = c.answer_taken.result; arrival =
+    Some (record {
+    number = c.in-Ok.taken.number; newest = c.newest-newest.result; lost = c.greatest_lost-lost.result; key =
+    c.take-key.result }) }) c.in-Ok.taken.number taken.1
+    (record {
+    number = c.in-Ok.taken.number; newest = c.newest-newest.result; lost = c.greatest_lost-lost.result; key =
+    c.take-key.result })
+    (subst (λ (p : Assembly).
+    verdict p.settings g.C.Codec.meaning (contents_of p.window) c.args.octets.now ≡ Ok
+    (c.in-Ok.taken.number, taken.1)) c.self.view_is
+    (c.verdict.ensures.value ∙ ap (result_map_both view_taken (λ left. left)) c.in-Ok.is))
     (record {
       held = c.in_ok-held-in-Ok.held;
       content_is = c.in_ok-held-in-Ok.ensures.content;
@@ -39,7 +52,8 @@ returns-in_ok-held-in-Ok-clause-handled g c =
       arrives = record {
         number_is = refl;
         newest_is = c.newest-newest.ensures.newest ∙ ap (λ (p : Assembly). p.window.newest) c.self.view_is;
-        lost_is = c.greatest_lost-lost.ensures ∙ ap (λ (p : Assembly). greatest_of (lost_from p.window p.front c.in-Ok.taken.number)) c.self.view_is;
+        lost_is = c.greatest_lost-lost.ensures
+            ∙ ap (λ (p : Assembly). greatest_of (lost_from p.window p.front c.in-Ok.taken.number)) c.self.view_is;
         key_is = c.take-key.ensures.taken.1;
       };
     }) c.answer_taken.ensures refl

@@ -8,8 +8,12 @@ use Rattle.vrx_core.proofs.assembler.Assembler.pass.Goals as goal
 pub invariant_of-self : goal.invariant_of-self
 invariant_of-self g c =
     let i = c.self.inside in
-    fields-pulled c.runs_are.ensures c.runs_rise.ensures c.runs_apart.ensures g.C.Codec.meaning i.settings i.count c.count.new.self i.window i.runs i.frames c.take.new.self i.last_pulled i.front c.front_after-self-inside.result i.extender c.args.run
-    c.self.invariant (subst (λ (p : Assembly). next_of p.front p.frames ≡ Some c.args.run) (sym c.self.view_is) c.requires.next) (subst (λ (p : Assembly). p.events < MOST_EVENTS) (sym c.self.view_is) c.requires.room)
+    fields-pulled c.runs_are.ensures c.runs_rise.ensures c.runs_apart.ensures g.C.Codec.meaning i.settings i.count
+    c.count.new.self i.window i.runs i.frames c.take.new.self i.last_pulled i.front c.front_after-self-inside.result
+    i.extender c.args.run
+    c.self.invariant (subst (λ (p : Assembly). next_of p.front p.frames ≡ Some c.args.run)
+    (sym c.self.view_is) c.requires.next)
+    (subst (λ (p : Assembly). p.events < MOST_EVENTS) (sym c.self.view_is) c.requires.room)
     c.count.ensures.events c.take.ensures.from c.take.ensures.runs c.front_after-self-inside.ensures
 
 pub returns-clause-after : goal.returns-clause-after

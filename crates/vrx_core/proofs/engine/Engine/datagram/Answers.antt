@@ -7,7 +7,7 @@ use Rattle.vrx_core.specs.machine.Machine.{Reply, ToDatagram, nack_for, pli_for,
 use Rattle.vrx_core.specs.machine.Reasons.{MeansAnswer}
 use Rattle.vrx_core.specs.machine.Verdict.{verdict}
 use Rattle.vrx_core.specs.relation.Order.{greatest_of}
-use Rattle.vrx_core.specs.relation.StandsFor.{Assembly, Parts, StandsFor, Wanted, parts_of}
+use Rattle.vrx_core.specs.relation.StandsFor.{Assembly, EngineParts, StandsFor, Wanted, parts_of}
 use Rattle.vrx_core.specs.inside.Fields.{IsSound}
 use Rattle.vrx_core.specs.inside.Kept.{key_numbers}
 use Rattle.vrx_core.specs.inside.Wants.{AreFresh, asked_with, key_with, wanted_with}
@@ -21,10 +21,14 @@ use Rattle.vrx_core.proofs.step.WantedLemmas.{datagram-reply, datagram-stands-fo
 use Rattle.vrx_core.proofs.engine.Engine.datagram.Goals as goal
 
 pub ask-feedback-requires-clause-below : goal.ask-feedback-requires-clause-below
-ask-feedback-requires-clause-below g c = let i = c.self.inside in arrival-below g.C.Codec.meaning i.assembler c.handle.new.self i.requests c.args.moment c.args.bytes.now c.in_ok-outcome.outcome c.in_ok-outcome.ensures.handled c.in_ok-outcome.ensures.before c.self.invariant.fresh
+ask-feedback-requires-clause-below g c = let i = c.self.inside in
+    arrival-below g.C.Codec.meaning i.assembler c.handle.new.self i.requests c.args.moment c.args.bytes.now
+    c.in_ok-outcome.outcome c.in_ok-outcome.ensures.handled c.in_ok-outcome.ensures.before c.self.invariant.fresh
 
 pub ask-feedback-requires-clause-short : goal.ask-feedback-requires-clause-short
-ask-feedback-requires-clause-short g c = let i = c.self.inside in arrival-short g.C.Codec.meaning i.assembler c.handle.new.self i.requests c.args.moment c.args.bytes.now c.in_ok-outcome.outcome c.in_ok-outcome.ensures.handled c.in_ok-outcome.ensures.before c.self.invariant.fresh
+ask-feedback-requires-clause-short g c = let i = c.self.inside in
+    arrival-short g.C.Codec.meaning i.assembler c.handle.new.self i.requests c.args.moment c.args.bytes.now
+    c.in_ok-outcome.outcome c.in_ok-outcome.ensures.handled c.in_ok-outcome.ensures.before c.self.invariant.fresh
 
 pub invariant_of-self-2 : goal.invariant_of-self-2
 invariant_of-self-2 g c =
@@ -32,48 +36,80 @@ invariant_of-self-2 g c =
     record {
       whole = c.in_ok-outcome.ensures.after;
       fresh = subst (λ (w : Wanted). AreFresh c.handle.new.self.window w.asks) (sym c.ask-feedback.ensures.wanted)
-          (arrival-fresh g.C.Codec.meaning i.assembler c.handle.new.self i.requests c.args.moment c.args.bytes.now c.in_ok-outcome.outcome c.in_ok-outcome.ensures.handled c.in_ok-outcome.ensures.before c.self.invariant.fresh
+          (arrival-fresh g.C.Codec.meaning i.assembler c.handle.new.self i.requests c.args.moment c.args.bytes.now
+          c.in_ok-outcome.outcome c.in_ok-outcome.ensures.handled c.in_ok-outcome.ensures.before
+          c.self.invariant.fresh
           c.handle.new.self.clock c.handle.new.self.front (greatest_of (key_numbers c.handle.new.self.frames)));
     }
 
 pub returns-clause-stands : goal.returns-clause-stands
 returns-clause-stands g c =
     let i = c.self.inside in
-    subst (λ (p : Parts). (h : List Event) → StandsFor g.C.Codec.meaning p h → StandsFor g.C.Codec.meaning (parts_of c.handle.new.self c.ask-feedback.new.requests) (Datagram c.args.moment c.args.bytes.now ∷ h)) c.self.view_is
-    (λ h stands. subst (λ (w : Wanted). StandsFor g.C.Codec.meaning (parts_of c.handle.new.self w) (Datagram c.args.moment c.args.bytes.now ∷ h)) (sym c.ask-feedback.ensures.wanted)
-    (datagram-stands-for c.runs_are.ensures c.runs_rise.ensures g.C.Codec.meaning i.assembler c.handle.new.self i.requests c.args.moment c.args.bytes.now c.in_ok-outcome.outcome h c.in_ok-outcome.ensures.handled c.in_ok-outcome.ensures.before c.in_ok-outcome.ensures.after c.ask-feedback.ensures.sound stands))
+    subst (λ (p : EngineParts). (h : List Event) → StandsFor g.C.Codec.meaning p h →
+    StandsFor g.C.Codec.meaning (parts_of c.handle.new.self c.ask-feedback.new.requests)
+    (Datagram c.args.moment c.args.bytes.now ∷ h)) c.self.view_is
+    (λ h stands. subst (λ (w : Wanted).
+    StandsFor g.C.Codec.meaning (parts_of c.handle.new.self w) (Datagram c.args.moment c.args.bytes.now ∷ h))
+    (sym c.ask-feedback.ensures.wanted)
+    (datagram-stands-for c.runs_are.ensures c.runs_rise.ensures g.C.Codec.meaning i.assembler c.handle.new.self
+    i.requests c.args.moment c.args.bytes.now c.in_ok-outcome.outcome h c.in_ok-outcome.ensures.handled
+    c.in_ok-outcome.ensures.before c.in_ok-outcome.ensures.after c.ask-feedback.ensures.sound stands))
 
 pub returns-clause-reply : goal.returns-clause-reply
 returns-clause-reply g c =
     let i = c.self.inside in
     let a = c.handle.new.self in
-    subst (λ (p : Parts). (h : List Event) → StandsFor g.C.Codec.meaning p h → ToDatagram (record { what = c.in_ok-outcome.outcome.what; repaired = c.new.result; feedback = c.ask-feedback.result }) ≡ reply p.settings g.C.Codec.meaning h (Datagram c.args.moment c.args.bytes.now)) c.self.view_is
+    subst (λ (p : EngineParts). (h : List Event) → StandsFor g.C.Codec.meaning p h →
+    ToDatagram (record {
+    what = c.in_ok-outcome.outcome.what; repaired = c.new.result; feedback = c.ask-feedback.result })
+    ≡ reply p.settings g.C.Codec.meaning h (Datagram c.args.moment c.args.bytes.now)) c.self.view_is
     (λ h stands.
-    (λ j. ToDatagram (record { what = c.in_ok-outcome.outcome.what; repaired = c.new.result; feedback = record { nack = c.ask-feedback.ensures.nack j; pli = c.ask-feedback.ensures.pli j } }))
-    ∙ datagram-reply c.runs_are.ensures c.runs_rise.ensures g.C.Codec.meaning i.assembler a i.requests c.args.moment c.args.bytes.now c.in_ok-outcome.outcome h c.in_ok-outcome.ensures.handled c.in_ok-outcome.ensures.before c.in_ok-outcome.ensures.after c.ask-feedback.ensures.sound stands
+    (λ j. ToDatagram (record {
+    what = c.in_ok-outcome.outcome.what; repaired = c.new.result; feedback =
+    record { nack = c.ask-feedback.ensures.nack j; pli = c.ask-feedback.ensures.pli j } }))
+    ∙ datagram-reply c.runs_are.ensures c.runs_rise.ensures g.C.Codec.meaning i.assembler a i.requests c.args.moment
+    c.args.bytes.now c.in_ok-outcome.outcome h c.in_ok-outcome.ensures.handled c.in_ok-outcome.ensures.before
+    c.in_ok-outcome.ensures.after c.ask-feedback.ensures.sound stands
     c.new.result c.new.ensures)
 
 pub returns-clause-settings : goal.returns-clause-settings
-returns-clause-settings g c = subst (λ (p : Parts). c.handle.new.self.settings ≡ p.settings) c.self.view_is (datagram-settings g.C.Codec.meaning c.self.inside.assembler c.handle.new.self c.args.moment c.args.bytes.now c.in_ok-outcome.outcome c.in_ok-outcome.ensures.handled)
+returns-clause-settings g c =
+    subst (λ (p : EngineParts). c.handle.new.self.settings ≡ p.settings) c.self.view_is
+    (datagram-settings g.C.Codec.meaning c.self.inside.assembler c.handle.new.self c.args.moment c.args.bytes.now
+    c.in_ok-outcome.outcome c.in_ok-outcome.ensures.handled)
 
 pub returns-clause-refused : goal.returns-clause-refused
 returns-clause-refused g c =
     let i = c.self.inside in
-    subst (λ (p : Parts). IsErr (verdict p.settings g.C.Codec.meaning (contents_of p.window) c.args.bytes.now) → (true ≡ true) × (parts_of c.handle.new.self c.ask-feedback.new.requests ≡ record p { events = p.events + 1; clock = max p.clock c.args.moment })) c.self.view_is
+    subst (λ (p : EngineParts). IsErr (verdict p.settings g.C.Codec.meaning (contents_of p.window) c.args.bytes.now) →
+    (true ≡ true) × (parts_of c.handle.new.self c.ask-feedback.new.requests
+    ≡ record p { events = p.events + 1; clock = max p.clock c.args.moment })) c.self.view_is
     (λ refused.
-    let r = datagram-refused g.C.Codec.meaning i.assembler c.handle.new.self c.args.moment c.args.bytes.now c.in_ok-outcome.outcome c.in_ok-outcome.ensures.handled refused in (
+    let r = datagram-refused g.C.Codec.meaning i.assembler c.handle.new.self c.args.moment c.args.bytes.now
+        c.in_ok-outcome.outcome c.in_ok-outcome.ensures.handled refused in (
       refl,
-      ap (λ (w : Wanted). parts_of c.handle.new.self w) (c.ask-feedback.ensures.wanted ∙ ap (λ o. wanted_with c.handle.new.self.clock c.handle.new.self.front (greatest_of (key_numbers c.handle.new.self.frames)) o i.requests) r.0)
+      ap (λ (w : Wanted). parts_of c.handle.new.self w)
+      (c.ask-feedback.ensures.wanted
+      ∙ ap (λ o. wanted_with c.handle.new.self.clock c.handle.new.self.front
+      (greatest_of (key_numbers c.handle.new.self.frames)) o i.requests) r.0)
           ∙ ap (λ (a : Assembly). parts_of a i.requests) r.1,
     ))
 
 pub returns-clause-counts : goal.returns-clause-counts
 returns-clause-counts g c =
-    subst (λ (p : Parts). (c.handle.new.self.events ≡ p.events + 1) × (c.handle.new.self.clock ≡ max p.clock c.args.moment)) c.self.view_is
-    (datagram-counts g.C.Codec.meaning c.self.inside.assembler c.handle.new.self c.args.moment c.args.bytes.now c.in_ok-outcome.outcome c.in_ok-outcome.ensures.handled)
+    subst (λ (p : EngineParts). (c.handle.new.self.events ≡ p.events + 1)
+    × (c.handle.new.self.clock ≡ max p.clock c.args.moment)) c.self.view_is
+    (datagram-counts g.C.Codec.meaning c.self.inside.assembler c.handle.new.self c.args.moment c.args.bytes.now
+    c.in_ok-outcome.outcome c.in_ok-outcome.ensures.handled)
 
 pub returns-clause-exactly : goal.returns-clause-exactly
 returns-clause-exactly g c =
     let i = c.self.inside in
-    subst (λ (p : Parts). (what : What) → (c.in_ok-outcome.outcome.what ≡ what) ↔ MeansAnswer p.settings g.C.Codec.meaning (contents_of p.window) c.args.bytes.now what) c.self.view_is
-    (λ what. answers_mean c.reasons_mean.ensures.reasons i.assembler.settings g.C.Codec.meaning (contents_of i.assembler.window) c.args.bytes.now (All-from_get_or (λ octet. octet < 256) c.args.bytes.now 0 (λ k within. Fits-lt-pow (c.type_inv.bytes k))) (newest-beyond g.C.Codec.meaning i.assembler c.in_ok-outcome.ensures.before) c.in_ok-outcome.outcome.what c.in_ok-outcome.ensures.handled.answer what)
+    subst (λ (p : EngineParts). (what : What) →
+    (c.in_ok-outcome.outcome.what ≡ what)
+    ↔ MeansAnswer p.settings g.C.Codec.meaning (contents_of p.window) c.args.bytes.now what) c.self.view_is
+    (λ what. answers_mean c.reasons_mean.ensures.reasons i.assembler.settings g.C.Codec.meaning
+    (contents_of i.assembler.window) c.args.bytes.now
+    (All-from_get_or (λ octet. octet < 256) c.args.bytes.now 0 (λ k within. Fits-lt-pow (c.type_inv.bytes k)))
+    (newest-beyond g.C.Codec.meaning i.assembler c.in_ok-outcome.ensures.before) c.in_ok-outcome.outcome.what
+    c.in_ok-outcome.ensures.handled.answer what)

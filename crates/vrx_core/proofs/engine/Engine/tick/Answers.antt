@@ -5,10 +5,10 @@ use Rattle.vrx_window.specs.Window.{Contents}
 use Rattle.vrx_window.specs.declared.held.Held.{Held}
 use Rattle.vrx_core.specs.machine.Machine.{ToTick, nack_for, pli_for, reply}
 use Rattle.vrx_core.specs.relation.Order.{greatest_of}
-use Rattle.vrx_core.specs.relation.StandsFor.{Assembly, Parts, StandsFor, Wanted, parts_of}
+use Rattle.vrx_core.specs.relation.StandsFor.{Assembly, EngineParts, StandsFor, Wanted, parts_of}
 use Rattle.vrx_core.specs.inside.Fields.{IsSound}
 use Rattle.vrx_core.specs.inside.Kept.{key_numbers}
-use Rattle.vrx_core.specs.inside.Step.{counted}
+use Rattle.vrx_core.specs.inside.Step.{after_counting}
 use Rattle.vrx_core.specs.inside.Wants.{AreFresh, AreNear, CanGiveUpAll, asks_key, given_up_all, needs_key, wanted_ticked}
 use Rattle.vrx_core.specs.declared.event.Event.{Event}
 use Rattle.vrx_core.specs.declared.event.Event.TheVariants.{Tick}
@@ -18,78 +18,128 @@ use Rattle.vrx_core.proofs.engine.Engine.tick.Given as given
 use Rattle.vrx_core.proofs.engine.Engine.tick.Goals as goal
 
 -- the assembly that was counted has the window, the settings and the frames that were there
-lost-is : (g : given.Over) (c : goal.After-as_slice g) → c.as_slice.result.now ≡ given_up_numbers c.now-now.result c.settings.result.now.interval c.self.inside.requests.asks
+lost-is : (g : given.Over) (c : goal.After-as_slice g) →
+    c.as_slice.result.now ≡ given_up_numbers c.now-now.result c.settings.result.now.interval
+    c.self.inside.requests.asks
 lost-is g c = c.as_slice.ensures.value ∙ c.ticked-ticked.ensures.lost
 
 pub give_up_all-requires : goal.give_up_all-requires
 give_up_all-requires g c = record {
   fresh = subst (λ ns. CanGiveUpAll ns c.count.new.self.window) (sym (lost-is g c))
-      (subst (λ (a : Assembly). CanGiveUpAll (given_up_numbers c.now-now.result c.settings.result.now.interval c.self.inside.requests.asks) a.window) (sym c.count.ensures.counted)
-      (can-give-up c.self.inside.assembler.window c.now-now.result c.settings.result.now.interval c.self.inside.requests.asks c.ticked-ticked.ensures.sound c.self.invariant.fresh));
+      (subst (λ (a : Assembly).
+      CanGiveUpAll (given_up_numbers c.now-now.result c.settings.result.now.interval c.self.inside.requests.asks)
+      a.window) (sym c.count.ensures.counted)
+      (can-give-up c.self.inside.assembler.window c.now-now.result c.settings.result.now.interval
+      c.self.inside.requests.asks c.ticked-ticked.ensures.sound c.self.invariant.fresh));
 }
 
 pub nack_unless_none-requires : goal.nack_unless_none-requires
 nack_unless_none-requires g c = record {
-  near = subst AreNear (sym (c.as_slice-2.ensures.value ∙ c.ticked-ticked.ensures.numbers)) (near-asked c.now-now.result c.settings.result.now.interval c.self.inside.requests.asks c.ticked-ticked.ensures.sound);
+  near = subst AreNear (sym (c.as_slice-2.ensures.value ∙ c.ticked-ticked.ensures.numbers))
+      (near-asked c.now-now.result c.settings.result.now.interval c.self.inside.requests.asks
+      c.ticked-ticked.ensures.sound);
 }
 
 -- the clock and the settings at the tick
-now-is : (g : given.Over) (c : goal.After-pli_if g) → c.now-now.result ≡ max c.self.inside.assembler.clock c.args.moment
+now-is : (g : given.Over) (c : goal.After-pli_if g) →
+    c.now-now.result ≡ max c.self.inside.assembler.clock c.args.moment
 now-is g c = c.now-now.ensures.value ∙ ap (λ (a : Assembly). a.clock) c.count.ensures.counted
 
 settings-are : (g : given.Over) (c : goal.After-pli_if g) → c.settings.result.now ≡ c.self.inside.assembler.settings
 settings-are g c = c.settings.ensures.value ∙ ap (λ (a : Assembly). a.settings) c.count.ensures.counted
 
 -- the assembly after it
-numbers-are : (g : given.Over) (c : goal.After-pli_if g) → c.as_slice.result.now ≡ given_up_numbers (max c.self.inside.assembler.clock c.args.moment) c.self.inside.assembler.settings.interval c.self.inside.requests.asks
-numbers-are g c = c.as_slice.ensures.value ∙ c.ticked-ticked.ensures.lost ∙ (λ i. given_up_numbers (now-is g c i) (settings-are g c i).interval c.self.inside.requests.asks)
+numbers-are : (g : given.Over) (c : goal.After-pli_if g) →
+    c.as_slice.result.now ≡ given_up_numbers
+    (max c.self.inside.assembler.clock c.args.moment) c.self.inside.assembler.settings.interval
+    c.self.inside.requests.asks
+numbers-are g c = c.as_slice.ensures.value ∙ c.ticked-ticked.ensures.lost
+    ∙ (λ i. given_up_numbers (now-is g c i) (settings-are g c i).interval c.self.inside.requests.asks)
 
-after-is : (g : given.Over) (c : goal.After-pli_if g) → c.give_up_all.new.self ≡ record (counted c.self.inside.assembler c.args.moment) { window = given_up_all (given_up_numbers (max c.self.inside.assembler.clock c.args.moment) c.self.inside.assembler.settings.interval c.self.inside.requests.asks) c.self.inside.assembler.window }
+after-is : (g : given.Over) (c : goal.After-pli_if g) →
+    c.give_up_all.new.self ≡ record (after_counting c.self.inside.assembler c.args.moment) { window =
+    given_up_all (given_up_numbers
+    (max c.self.inside.assembler.clock c.args.moment) c.self.inside.assembler.settings.interval
+    c.self.inside.requests.asks) c.self.inside.assembler.window }
 after-is g c =
     c.give_up_all.ensures.given_up
     ∙ ap (λ (a : Assembly). record a { window = given_up_all c.as_slice.result.now a.window }) c.count.ensures.counted
-    ∙ ap (λ ns. record (counted c.self.inside.assembler c.args.moment) { window = given_up_all ns c.self.inside.assembler.window }) (numbers-are g c)
+    ∙ ap (λ ns. record (after_counting c.self.inside.assembler c.args.moment) { window =
+    given_up_all ns c.self.inside.assembler.window }) (numbers-are g c)
 
 -- what is wanted after it
-started-is : (g : given.Over) (c : goal.After-pli_if g) → c.is_some-started.result ≡ is_some c.self.inside.assembler.window.newest
-started-is g c = c.is_some-started.ensures ∙ ap (λ (o : Option ℕ). is_some o) c.newest.ensures.value ∙ ap (λ (a : Assembly). is_some a.window.newest) c.count.ensures.counted
+started-is : (g : given.Over) (c : goal.After-pli_if g) →
+    c.is_some-started.result ≡ is_some c.self.inside.assembler.window.newest
+started-is g c = c.is_some-started.ensures ∙ ap (λ (o : Option ℕ). is_some o) c.newest.ensures.value
+    ∙ ap (λ (a : Assembly). is_some a.window.newest) c.count.ensures.counted
 
-key-is : (g : given.Over) (c : goal.After-pli_if g) → c.greatest_key-key.result ≡ greatest_of (key_numbers c.self.inside.assembler.frames)
-key-is g c = c.greatest_key-key.ensures.value ∙ ap (λ (a : Assembly). greatest_of (key_numbers a.frames)) c.count.ensures.counted
+key-is : (g : given.Over) (c : goal.After-pli_if g) →
+    c.greatest_key-key.result ≡ greatest_of (key_numbers c.self.inside.assembler.frames)
+key-is g c = c.greatest_key-key.ensures.value
+    ∙ ap (λ (a : Assembly). greatest_of (key_numbers a.frames)) c.count.ensures.counted
 
-wanted-is : (g : given.Over) (c : goal.After-pli_if g) → c.ticked-ticked.new.self ≡ wanted_ticked (max c.self.inside.assembler.clock c.args.moment) c.self.inside.assembler.settings.interval (is_some c.self.inside.assembler.window.newest) (greatest_of (key_numbers c.self.inside.assembler.frames)) c.self.inside.requests
-wanted-is g c = c.ticked-ticked.ensures.wanted ∙ (λ i. wanted_ticked (now-is g c i) (settings-are g c i).interval (started-is g c i) (key-is g c i) c.self.inside.requests)
+wanted-is : (g : given.Over) (c : goal.After-pli_if g) →
+    c.ticked-ticked.new.self ≡ wanted_ticked
+    (max c.self.inside.assembler.clock c.args.moment) c.self.inside.assembler.settings.interval
+    (is_some c.self.inside.assembler.window.newest)
+    (greatest_of (key_numbers c.self.inside.assembler.frames)) c.self.inside.requests
+wanted-is g c = c.ticked-ticked.ensures.wanted
+    ∙ (λ i. wanted_ticked (now-is g c i) (settings-are g c i).interval (started-is g c i)
+    (key-is g c i) c.self.inside.requests)
 
 pub invariant_of-self : goal.invariant_of-self
 invariant_of-self g c =
     let a = c.self.inside.assembler in
     record {
       whole = c.give_up_all.ensures.after;
-      fresh = subst (λ (w : Contents Held). AreFresh w c.ticked-ticked.new.self.asks) (sym (ap (λ (b : Assembly). b.window) (after-is g c)))
-          (subst (λ (w : Wanted). AreFresh (given_up_all (given_up_numbers (max a.clock c.args.moment) a.settings.interval c.self.inside.requests.asks) a.window) w.asks) (sym (wanted-is g c))
-          (fresh-ticked a.window (max a.clock c.args.moment) a.settings.interval c.self.inside.requests.asks c.ticked-ticked.ensures.sound c.self.invariant.fresh));
+      fresh = subst (λ (w : Contents Held). AreFresh w c.ticked-ticked.new.self.asks)
+          (sym (ap (λ (b : Assembly). b.window) (after-is g c)))
+          (subst (λ (w : Wanted). AreFresh
+          (given_up_all (given_up_numbers (max a.clock c.args.moment) a.settings.interval c.self.inside.requests.asks)
+          a.window) w.asks) (sym (wanted-is g c))
+          (fresh-ticked a.window (max a.clock c.args.moment) a.settings.interval c.self.inside.requests.asks
+          c.ticked-ticked.ensures.sound c.self.invariant.fresh));
     }
 
 pub returns-clause-stands : goal.returns-clause-stands
 returns-clause-stands g c =
     let i = c.self.inside in
-    subst (λ (p : Parts). (h : List Event) → StandsFor g.C.Codec.meaning p h → StandsFor g.C.Codec.meaning (parts_of c.give_up_all.new.self c.ticked-ticked.new.self) (Tick c.args.moment ∷ h)) c.self.view_is
-    (λ h stands. subst (λ (w : Wanted). StandsFor g.C.Codec.meaning (parts_of c.give_up_all.new.self w) (Tick c.args.moment ∷ h)) (sym (wanted-is g c))
-    (tick-stands-for c.runs_are.ensures g.C.Codec.meaning i.assembler c.give_up_all.new.self i.requests c.args.moment h stands c.ticked-ticked.ensures.sound (after-is g c)))
+    subst (λ (p : EngineParts). (h : List Event) → StandsFor g.C.Codec.meaning p h →
+    StandsFor g.C.Codec.meaning (parts_of c.give_up_all.new.self c.ticked-ticked.new.self) (Tick c.args.moment ∷ h))
+    c.self.view_is
+    (λ h stands. subst (λ (w : Wanted).
+    StandsFor g.C.Codec.meaning (parts_of c.give_up_all.new.self w) (Tick c.args.moment ∷ h)) (sym (wanted-is g c))
+    (tick-stands-for c.runs_are.ensures g.C.Codec.meaning i.assembler c.give_up_all.new.self i.requests c.args.moment
+    h stands c.ticked-ticked.ensures.sound (after-is g c)))
 
-asked-are : (g : given.Over) (c : goal.After-pli_if g) → c.as_slice-2.result.now ≡ asked_numbers (max c.self.inside.assembler.clock c.args.moment) c.self.inside.assembler.settings.interval c.self.inside.requests.asks
-asked-are g c = c.as_slice-2.ensures.value ∙ c.ticked-ticked.ensures.numbers ∙ (λ i. asked_numbers (now-is g c i) (settings-are g c i).interval c.self.inside.requests.asks)
+asked-are : (g : given.Over) (c : goal.After-pli_if g) →
+    c.as_slice-2.result.now ≡ asked_numbers
+    (max c.self.inside.assembler.clock c.args.moment) c.self.inside.assembler.settings.interval
+    c.self.inside.requests.asks
+asked-are g c = c.as_slice-2.ensures.value ∙ c.ticked-ticked.ensures.numbers
+    ∙ (λ i. asked_numbers (now-is g c i) (settings-are g c i).interval c.self.inside.requests.asks)
 
-asks-is : (g : given.Over) (c : goal.After-pli_if g) → c.ticked-ticked.result.key ≡ asks_key (max c.self.inside.assembler.clock c.args.moment) (needs_key (max c.self.inside.assembler.clock c.args.moment) c.self.inside.assembler.settings.interval (is_some c.self.inside.assembler.window.newest) (greatest_of (key_numbers c.self.inside.assembler.frames)) c.self.inside.requests) c.self.inside.requests.key_asked
-asks-is g c = c.ticked-ticked.ensures.key ∙ (λ i. asks_key (now-is g c i) (needs_key (now-is g c i) (settings-are g c i).interval (started-is g c i) (key-is g c i) c.self.inside.requests) c.self.inside.requests.key_asked)
+asks-is : (g : given.Over) (c : goal.After-pli_if g) →
+    c.ticked-ticked.result.key ≡ asks_key (max c.self.inside.assembler.clock c.args.moment)
+    (needs_key (max c.self.inside.assembler.clock c.args.moment) c.self.inside.assembler.settings.interval
+    (is_some c.self.inside.assembler.window.newest)
+    (greatest_of (key_numbers c.self.inside.assembler.frames)) c.self.inside.requests)
+    c.self.inside.requests.key_asked
+asks-is g c = c.ticked-ticked.ensures.key
+    ∙ (λ i. asks_key (now-is g c i)
+    (needs_key (now-is g c i) (settings-are g c i).interval (started-is g c i) (key-is g c i) c.self.inside.requests)
+    c.self.inside.requests.key_asked)
 
 pub returns-clause-reply : goal.returns-clause-reply
 returns-clause-reply g c =
     let i = c.self.inside in
-    subst (λ (p : Parts). (h : List Event) → StandsFor g.C.Codec.meaning p h → ToTick (record { nack = c.nack_unless_none.result; pli = c.pli_if.result }) ≡ reply p.settings g.C.Codec.meaning h (Tick c.args.moment)) c.self.view_is
+    subst (λ (p : EngineParts). (h : List Event) → StandsFor g.C.Codec.meaning p h →
+    ToTick (record { nack = c.nack_unless_none.result; pli = c.pli_if.result }) ≡ reply p.settings g.C.Codec.meaning h
+    (Tick c.args.moment)) c.self.view_is
     (λ h stands.
     (λ j. ToTick (record {
       nack = (c.nack_unless_none.ensures ∙ (λ k. nack_for (c.settings-settings.ensures.value k) (asked-are g c k))) j;
       pli = (c.pli_if.ensures ∙ (λ k. pli_for (c.settings-settings.ensures.value k) (asks-is g c k))) j;
     }))
-    ∙ tick-reply c.runs_are.ensures g.C.Codec.meaning i.assembler c.give_up_all.new.self i.requests c.args.moment h stands c.ticked-ticked.ensures.sound (after-is g c))
+    ∙ tick-reply c.runs_are.ensures g.C.Codec.meaning i.assembler c.give_up_all.new.self i.requests c.args.moment h
+    stands c.ticked-ticked.ensures.sound (after-is g c))

@@ -14,12 +14,16 @@ invariant_of-self c =
     let beyond = beyond-from c.args.last (from_of c.self.inside.gone) c.if-not-is_gone.ensures in
     record {
       kept = subst (IsKept (c.args.last + 1) c.self.inside.ring) (sym c.drop_through.ensures.left)
-          (kept-later (from_of c.self.inside.gone) c.self.inside.ring c.self.inside.keys c.self.invariant.kept c.args.last beyond);
-      greatest_is = greatest-later (from_of c.self.inside.gone) c.self.inside.ring c.self.inside.keys c.self.inside.greatest c.self.invariant c.args.last beyond;
+          (kept-later (from_of c.self.inside.gone) c.self.inside.ring c.self.inside.keys c.self.invariant.kept
+          c.args.last beyond);
+      greatest_is = greatest-later
+          (from_of c.self.inside.gone) c.self.inside.ring c.self.inside.keys c.self.inside.greatest c.self.invariant
+          c.args.last beyond;
     }
 
 pub returns-then-not-is_gone-clause-runs : goal.returns-then-not-is_gone-clause-runs
-returns-then-not-is_gone-clause-runs c = runs-later (from_of c.self.inside.gone) (c.args.last + 1) c.self.inside.ring.entries
+returns-then-not-is_gone-clause-runs c =
+    runs-later (from_of c.self.inside.gone) (c.args.last + 1) c.self.inside.ring.entries
     (beyond-from c.args.last (from_of c.self.inside.gone) c.if-not-is_gone.ensures) c.self.invariant.kept.named
     ∙ ap (λ s. runs_from (c.args.last + 1) s.runs) c.self.view_is
 
@@ -27,5 +31,6 @@ pub returns-else-not-is_gone-clause-runs : goal.returns-else-not-is_gone-clause-
 returns-else-not-is_gone-clause-runs c =
     let from = from_of c.self.inside.gone in
     let low : list_all (λ (run : Run). nat_le from run.first) c.args.self.now.runs ≡ true =
-    subst (λ s. list_all (λ (run : Run). nat_le from run.first) s.runs ≡ true) c.self.view_is (runs-low from c.self.inside.ring.entries c.self.invariant.kept.named) in
+    subst (λ s. list_all (λ (run : Run). nat_le from run.first) s.runs ≡ true) c.self.view_is
+    (runs-low from c.self.inside.ring.entries c.self.invariant.kept.named) in
     from-low (c.args.last + 1) from c.args.self.now.runs low (beyond-not c.args.last from c.if-not-is_gone.ensures)

@@ -7,15 +7,22 @@ use Rattle.vrx_core.proofs.frames.Frames.least_key.Goals as goal
 
 pub returns-in-Some-clause-least : goal.returns-in-Some-clause-least
 returns-in-Some-clause-least c = c.run_under.ensures
-    ∙ kept-some (from_of c.self.inside.gone) c.self.inside.ring c.self.inside.keys c.self.invariant.kept c.in-Some.n c.in-Some.ensures.least
+    ∙ kept-some (from_of c.self.inside.gone) c.self.inside.ring c.self.inside.keys c.self.invariant.kept c.in-Some.n
+    c.in-Some.ensures.least
     ∙ ap (λ s. find (λ run. run.key) s.runs) c.self.view_is
 
 pub returns-in-Some-clause-sound : goal.returns-in-Some-clause-sound
-returns-in-Some-clause-sound c = subst IsStanding c.self.view_is (kept-sound (from_of c.self.inside.gone) c.self.inside.ring c.self.inside.keys c.self.invariant.kept)
+returns-in-Some-clause-sound c =
+    subst IsStanding c.self.view_is
+    (kept-sound (from_of c.self.inside.gone) c.self.inside.ring c.self.inside.keys c.self.invariant.kept)
 
 pub returns-in-None-clause-least : goal.returns-in-None-clause-least
-returns-in-None-clause-least c = kept-none (from_of c.self.inside.gone) c.self.inside.ring c.self.inside.keys c.self.invariant.kept c.in-None.ensures.least
+returns-in-None-clause-least c =
+    kept-none (from_of c.self.inside.gone) c.self.inside.ring c.self.inside.keys c.self.invariant.kept
+    c.in-None.ensures.least
     ∙ ap (λ s. find (λ run. run.key) s.runs) c.self.view_is
 
 pub returns-in-None-clause-sound : goal.returns-in-None-clause-sound
-returns-in-None-clause-sound c = subst IsStanding c.self.view_is (kept-sound (from_of c.self.inside.gone) c.self.inside.ring c.self.inside.keys c.self.invariant.kept)
+returns-in-None-clause-sound c =
+    subst IsStanding c.self.view_is
+    (kept-sound (from_of c.self.inside.gone) c.self.inside.ring c.self.inside.keys c.self.invariant.kept)

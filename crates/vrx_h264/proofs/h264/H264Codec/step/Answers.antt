@@ -3,7 +3,8 @@ use Rattle.vrx_h264.specs.Laws.{few_added}
 use Rattle.vrx_h264.proofs.h264.H264Codec.step.Goals as goal
 
 pub overflow_cast-octets : goal.overflow_cast-octets
-overflow_cast-octets c = omega (arith, c.added.ensures, few_added c.args.part.now.body.now, c.requires.body)
+overflow_cast-octets c = omega (arith, c.added_len.ensures, few_added c.args.part.now.body.now, c.requires.body)
 
 pub overflow_add-octets : goal.overflow_add-octets
-overflow_add-octets c = omega (arith, c.added.ensures, few_added c.args.part.now.body.now, c.requires.body, c.requires.octets)
+overflow_add-octets c =
+    omega (arith, c.added_len.ensures, few_added c.args.part.now.body.now, c.requires.body, c.requires.octets)

@@ -1,6 +1,6 @@
 use Rattle.std.proofs.Common.{◌∙◌, Some, ap}
-use Rattle.vrx_window.specs.Fates.{shown_of}
-use Rattle.vrx_window.specs.Window.{placed, would_of}
+use Rattle.vrx_window.specs.Fates.{window_of}
+use Rattle.vrx_window.specs.Window.{after_placing, would_of}
 use Rattle.vrx_window.proofs.WindowLemmas.{fresh_is, shown_placed}
 use Rattle.vrx_window.proofs.window.Window.place.Goals as goal
 
@@ -8,8 +8,8 @@ pub returns : goal.returns
 returns c =
     let fresh = fresh_is _ c.args.n (ap (λ w. would_of w c.args.n) c.self.view_is ∙ c.requires.fresh) in
     record {
-      placed = ap (λ m. shown_of (Some m) c.place.new.self) c.unwrap_or.ensures
+      placed = ap (λ m. window_of (Some m) c.place.new.self) c.unwrap_or.ensures
           ∙ shown_placed c.self.inside.first c.self.inside.ring c.self.invariant c.args.n fresh c.args.held
           c.place.new.self c.place.ensures.sound c.place.ensures.newest c.place.ensures.entries
-          ∙ ap (placed c.args.n c.args.held) c.self.view_is;
+          ∙ ap (after_placing c.args.n c.args.held) c.self.view_is;
     }
