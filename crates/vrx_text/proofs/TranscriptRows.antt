@@ -2,7 +2,7 @@
 use Rattle.std.proofs.Common.{◌≡◌, ℕ, List, [], ◌∷◌, ◌++◌, codes, None, Some, refl}
 use Rattle.std.specs.Fmt.{digits}
 use Rattle.hex.specs.Hex.{encode_with}
-use Rattle.vrx_core.specs.machine.Machine.{ToDatagram, ToTick, no_feedback}
+use Rattle.vrx_core.specs.machine.Machine.{ToDatagram, ToTick}
 use Rattle.vrx_core.specs.declared.reply.What.TheVariants.{Fec}
 use Rattle.vrx_capture.specs.declared.line.LineReason.TheVariants.{Hex}
 use Rattle.vrx_text.specs.declared.transcript.ErrorReason.TheVariants.{Settings, Later, Line}
@@ -26,7 +26,7 @@ pub repaired : text_of 9
 unfolding text_of digits encode_with
 repaired = refl
 
-pub quiet_tick : text_of 10 (ToTick no_feedback) ≡ codes "10 tick" ++ line_feed
+pub quiet_tick : text_of 10 (ToTick (record { nack = None; pli = None })) ≡ codes "10 tick" ++ line_feed
 unfolding text_of digits
 quiet_tick = refl
 
