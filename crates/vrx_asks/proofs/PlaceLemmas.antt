@@ -109,7 +109,7 @@ module _ (n : ℕ) (asks : List Ask) (rise : rises asks ≡ true) where
     absent = without-absent n asks (λ k d lt same.
         let number : ℕ = (get_or asks k d).number in
         let less : k < place → number < n =
-            λ at. ranked _ n _ (sym ((parted comparisons_rise).0 k d (omega arith) at)) in
+        λ at. ranked _ n _ (sym ((parted comparisons_rise).0 k d (omega arith) at)) in
         let more : place ≤ k → n < number = λ at. ranked _ n _ (sym ((parted comparisons_rise).1 k d at lt)) in
         differs-beside k place number n less more same);
   }

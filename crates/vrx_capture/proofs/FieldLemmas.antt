@@ -53,7 +53,7 @@ place-write [] [] plain apart = refl
 place-write [] (o ∷ rest) plain apart = let space : (o == 32) ≡ true = apart in rw space refl
 place-write (o ∷ w) rest plain apart =
     let more : position_or_len (λ octet. octet == 32) (w ++ rest) ≡ length w =
-        place-write w rest (grind arith) apart in
+    place-write w rest (grind arith) apart in
     let no_space : (o == 32) ≡ false = grind arith in
     rw (no_space, more) (omega arith)
 
@@ -62,9 +62,11 @@ until_space-write : (w rest : List ℕ) → list_any (λ o. o == 32) w ≡ false
     (until_space (w ++ rest) ≡ w) × (from_space (w ++ rest) ≡ rest)
 unfolding until_space from_space
 until_space-write w rest plain apart =
-    let place : position_or_len (λ octet. octet == 32) (w ++ rest) ≡ length w = place-write w rest plain apart in
-    (ap (λ (n : ℕ). take n (w ++ rest)) place
-    ∙ take_at w rest (length w) refl, ap (λ (n : ℕ). drop n (w ++ rest)) place ∙ drop_at w rest (length w) refl)
+    let place : position_or_len (λ octet. octet == 32) (w ++ rest) ≡ length w = place-write w rest plain apart in (
+      ap (λ (n : ℕ). take n (w ++ rest)) place
+          ∙ take_at w rest (length w) refl,
+      ap (λ (n : ℕ). drop n (w ++ rest)) place ∙ drop_at w rest (length w) refl,
+    )
 
 -- a text is its word, and what stands from the first space on
 until_space-read : (text : List ℕ) → text ≡ until_space text ++ from_space text
@@ -99,10 +101,10 @@ field_back name value_in text_of Fits spells text told h =
     let is = spells.back (until_space rest.0) value.0 value.1 in
     let front : text ≡ name ++ rest.0 = after_prefix-read name text rest.0 rest.1 in
     let parts : rest.0 ≡ text_of value.0 ++ from_space rest.0 =
-        until_space-read rest.0 ∙ ap (λ (w : List ℕ). w ++ from_space rest.0) is.0 in
+    until_space-read rest.0 ∙ ap (λ (w : List ℕ). w ++ from_space rest.0) is.0 in
     let whole : text ≡ (name ++ text_of value.0) ++ from_space rest.0 = front
-        ∙ ap (λ (octets : List ℕ). name ++ octets) parts
-        ∙ sym (append_assoc name (text_of value.0) (from_space rest.0)) in
+    ∙ ap (λ (octets : List ℕ). name ++ octets) parts
+    ∙ sym (append_assoc name (text_of value.0) (from_space rest.0)) in
     subst (λ t. (text ≡ (name ++ text_of t.0) ++ t.1) × Fits t.0) same (whole, is.1)
 
 field_forth : {A : Type 0} (name : List ℕ) (value_in : List ℕ → Option A) (text_of : A → List ℕ) (Fits : A → Type 0)
@@ -111,8 +113,13 @@ field_forth : {A : Type 0} (name : List ℕ) (value_in : List ℕ → Option A) 
 unfolding field
 field_forth name value_in text_of Fits spells value rest fits apart =
     let parts = until_space-write (text_of value) rest (spells.plain value fits) apart in
-    rw (append_assoc name (text_of value) rest, after_prefix-write name (text_of value ++ rest), parts.0,
-    spells.forth value fits, parts.1) refl
+    rw (
+      append_assoc name (text_of value) rest,
+      after_prefix-write name (text_of value ++ rest),
+      parts.0,
+      spells.forth value fits,
+      parts.1,
+    ) refl
 
 -- a field reads, if a word of its value is read
 pub field_reads : {A : Type 0} (name : List ℕ) (value_in : List ℕ → Option A) (text_of : A → List ℕ)
@@ -120,7 +127,9 @@ pub field_reads : {A : Type 0} (name : List ℕ) (value_in : List ℕ → Option
     Reads (field name value_in) (λ value. name ++ text_of value) Fits is_apart
 field_reads name value_in text_of Fits spells =
     record {
-    back = field_back name value_in text_of Fits spells; forth = field_forth name value_in text_of Fits spells }
+      back = field_back name value_in text_of Fits spells;
+      forth = field_forth name value_in text_of Fits spells;
+    }
 
 -- ---- what may be absent
 
@@ -147,11 +156,11 @@ part_back : {A : Type 0} (name : List ℕ) (read : List ℕ → Option (A × Lis
 unfolding group_if
 part_back {A = A} name read texts Fits ends none reads text told h =
     elim (absent_chosen (is_none (after_prefix name text)) text (read text) told h) [
-  | inl absent ↦ subst (λ (t : Option A × List ℕ). (text ≡ texts t.0 ++ t.1) × IfSome t.0 Fits) absent
-      (ap (λ (octets : List ℕ). octets ++ text) (sym none), tt)
-  | inr found ↦ subst (λ (t : Option A × List ℕ). (text ≡ texts t.0 ++ t.1) × IfSome t.0 Fits) found.2
-      (reads.back text found.0 found.1)
-]
+      | inl absent ↦ subst (λ (t : Option A × List ℕ). (text ≡ texts t.0 ++ t.1) × IfSome t.0 Fits) absent
+          (ap (λ (octets : List ℕ). octets ++ text) (sym none), tt)
+      | inr found ↦ subst (λ (t : Option A × List ℕ). (text ≡ texts t.0 ++ t.1) × IfSome t.0 Fits) found.2
+          (reads.back text found.0 found.1)
+    ]
 
 part_forth : {A : Type 0} (name : List ℕ) (read : List ℕ → Option (A × List ℕ)) (texts : Option A → List ℕ)
     (Fits : A → Type 0) (ends : List ℕ → Bool) → texts None ≡ [] →
@@ -165,7 +174,7 @@ part_forth name read texts Fits ends none begins reads None rest fits apart =
 part_forth name read texts Fits ends none begins reads (Some value) rest fits apart =
     let parts = and_parts (ends rest) (is_none (after_prefix name rest)) apart in
     let found : is_none (after_prefix name (texts (Some value) ++ rest)) ≡ false =
-        rw (begins value).1 (named name (begins value).0 rest) in
+    rw (begins value).1 (named name (begins value).0 rest) in
     rw (found, reads.forth value rest fits parts.0) refl
 
 -- a part that may be absent reads, if the part reads, its text begins with its name, and no text stands for none

@@ -43,7 +43,7 @@ place-write : (w rest : List ℕ) → list_any (λ o. o == 32) w ≡ false →
 place-write [] rest plain = refl
 place-write (o ∷ w) rest plain =
     let more : position_or_len (λ octet. octet == 32) (w ++ 32 ∷ rest) ≡ length w =
-        place-write w rest (grind arith) in
+    place-write w rest (grind arith) in
     let no_space : (o == 32) ≡ false = grind arith in
     rw (no_space, more) (omega arith)
 
@@ -55,7 +55,7 @@ until_space-write w rest plain =
     let place : position_or_len (λ octet. octet == 32) (w ++ 32 ∷ rest) ≡ length w = place-write w rest plain in (
       ap (λ (n : ℕ). take n (w ++ 32 ∷ rest)) place ∙ take_at w (32 ∷ rest) (length w) refl,
       ap (λ (n : ℕ). drop (n + 1) (w ++ 32 ∷ rest)) place ∙ sym (drop-drop 1 (length w) (w ++ 32 ∷ rest))
-      ∙ ap (λ (octets : List ℕ). drop 1 octets) (drop_at w (32 ∷ rest) (length w) refl),
+          ∙ ap (λ (octets : List ℕ). drop 1 octets) (drop_at w (32 ∷ rest) (length w) refl),
     )
 
 -- if something stands after the first space, the text is the word, the space and this
@@ -64,7 +64,7 @@ unfolding until_space after_space
 until_space-read text some = elim (cases_lt (position_or_len (λ octet. octet == 32) text) (length text)) [
   | inl within ↦
       let space : get_or text (position_or_len (λ octet. octet == 32) text) 0 ≡ 32 =
-          eqb-true _ 32 (passes_at_first (λ octet. octet == 32) text 0 within) in
+      eqb-true _ 32 (passes_at_first (λ octet. octet == 32) text 0 within) in
       rw space at (split_at_first (λ octet. octet == 32) text 0 within)
   | inr beyond ↦ absurd (some (drop_all _ text (omega arith)))
 ]
@@ -155,15 +155,15 @@ unfolding event_in
 datagram-read line m octets h =
     let moment = bind_some (moment_in line) _ (Datagram m octets) h in
     let found = datagram_by moment.0 m octets (is_datagram line) (has_more line) (is_tick line) (is_pull line)
-        (bytes_in line) moment.2 in
+    (bytes_in line) moment.2 in
     let text : line ≡ codes "d " ++ after_letter line = begins_two 100 line found.0 in
     let number = (number_mean latest_moment moment.0 (until_space (after_letter line)) (omega arith)).0 moment.1 in
     let hex = octets_in-read (after_space (after_letter line)) octets found.2 in
     let some : after_space (after_letter line) ≢ [] =
-        octets_in-some (after_space (after_letter line)) octets found.2 in
+    octets_in-some (after_space (after_letter line)) octets found.2 in
     let spelled : after_letter line ≡ decimal m ++ 32 ∷ after_space (after_letter line) =
-        until_space-read (after_letter line) some
-        ∙ ap (λ (w : List ℕ). w ++ 32 ∷ after_space (after_letter line)) (number.0 ∙ ap decimal found.1) in
+    until_space-read (after_letter line) some
+    ∙ ap (λ (w : List ℕ). w ++ 32 ∷ after_space (after_letter line)) (number.0 ∙ ap decimal found.1) in
     record {
       digits = after_space (after_letter line);
       spelled = text ∙ ap (λ (w : List ℕ). codes "d " ++ w) spelled
@@ -178,10 +178,15 @@ datagram-write : (line : List ℕ) (m : ℕ) (octets : List ℕ) → IsDatagramL
 unfolding event_in after_prefix
 datagram-write line m octets is =
     let number : number_in latest_moment (decimal m) ≡ Some m =
-        (number_mean latest_moment m (decimal m) (omega (arith, is.moment))).1 (refl, is.moment) in
+    (number_mean latest_moment m (decimal m) (omega (arith, is.moment))).1 (refl, is.moment) in
     let parts = until_space-write (decimal m) is.digits (decimal_plain m (omega (arith, is.moment))) in
-    rw (is.spelled ∙ datagram_text m is.digits, parts.0, number, parts.1,
-    octets_in-write is.digits octets is.hex is.some) refl
+    rw (
+      is.spelled ∙ datagram_text m is.digits,
+      parts.0,
+      number,
+      parts.1,
+      octets_in-write is.digits octets is.hex is.some,
+    ) refl
 
 pub datagram_mean : (line : List ℕ) (m : ℕ) (octets : List ℕ) →
     (event_in line ≡ Some (Datagram m octets)) ↔ IsDatagramLine line m octets
@@ -195,7 +200,7 @@ alone : (c m n : ℕ) (line : List ℕ) → begins (c ∷ 32 ∷ []) line ≡ tr
 alone c m n line kind plain moment same =
     let number = (number_mean latest_moment n (until_space (after_letter line)) (omega arith)).0 moment in
     let text : after_letter line ≡ decimal m =
-        sym (until_space-whole (after_letter line) plain) ∙ number.0 ∙ ap decimal same in
+    sym (until_space-whole (after_letter line) plain) ∙ number.0 ∙ ap decimal same in
     (begins_two c line kind ∙ ap (λ (w : List ℕ). c ∷ 32 ∷ w) text, omega (arith, number.1, same))
 
 tick_by : (n m : ℕ) (datagram more tick pull : Bool) (bytes : Option (List ℕ)) →
@@ -215,7 +220,7 @@ unfolding event_in
 tick-read line m h =
     let moment = bind_some (moment_in line) _ (Tick m) h in
     let found = tick_by moment.0 m (is_datagram line) (has_more line) (is_tick line) (is_pull line)
-        (bytes_in line) moment.2 in
+    (bytes_in line) moment.2 in
     alone 116 m moment.0 line found.1 found.0 moment.1 found.2
 
 pull_by : (n m : ℕ) (datagram more tick pull : Bool) (bytes : Option (List ℕ)) →
@@ -235,7 +240,7 @@ unfolding event_in
 pull-read line m h =
     let moment = bind_some (moment_in line) _ (Pull m) h in
     let found = pull_by moment.0 m (is_datagram line) (has_more line) (is_tick line) (is_pull line)
-        (bytes_in line) moment.2 in
+    (bytes_in line) moment.2 in
     alone 112 m moment.0 line found.1 found.0 moment.1 found.2
 
 -- what is written of a moment
@@ -245,7 +250,7 @@ written : (m : ℕ) → m ≤ latest_moment →
 written m bound =
     let plain : list_any (λ octet. octet == 32) (decimal m) ≡ false = decimal_plain m (omega arith) in
     let number : number_in latest_moment (decimal m) ≡ Some m =
-        (number_mean latest_moment m (decimal m) (omega arith)).1 (refl, bound) in
+    (number_mean latest_moment m (decimal m) (omega arith)).1 (refl, bound) in
     (rw (until_space-whole (decimal m) plain) number, plain)
 
 tick-write : (line : List ℕ) (m : ℕ) → (line ≡ codes "t " ++ decimal m) × (m ≤ latest_moment) →

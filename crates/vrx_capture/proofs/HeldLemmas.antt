@@ -105,7 +105,7 @@ module _ {S : Type 0} (is_read : S → List ℕ → S → Type 0) (left : S → 
   reads_more first second octets one are part = (
     reads_twice old mid new (left start) (left was) (left now) first.0 second,
     subst (λ more. ReadsSo is_read IsOpenLine old.kept start now (first.0.read ++ more))
-    (same_behind mid.kept octets second.read (sym are ∙ second.octets))
+        (same_behind mid.kept octets second.read (sym are ∙ second.octets))
         (reads_one is_read IsOpenLine old.kept start was now first.0.read octets first.1
         (subst IsOpenLine first.0.octets part) one),
   )

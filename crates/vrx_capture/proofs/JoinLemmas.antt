@@ -74,8 +74,8 @@ line_join max k events n (Happens event) first all more given h rest =
     let number : k + 1 + n ≡ k + suc n = omega arith in
     let count : events + 1 + length first.events ≡ events + length ((k, event) ∷ first.events) = omega arith in
     let joined : all ≡ behind_events first.events
-        (reading max (k + suc n) (events + length ((k, event) ∷ first.events)) more) =
-        rw (number, count) at (rest first.events shown.1) in
+    (reading max (k + suc n) (events + length ((k, event) ∷ first.events)) more) =
+    rw (number, count) at (rest first.events shown.1) in
     rw (joined, shown.0) refl
 
 pub readings_join : ReadingsJoin

@@ -43,8 +43,11 @@ no_kind : (line : List ℕ) → is_blank line ≡ true →
     (is_datagram line ≡ false) × (is_tick line ≡ false) × (is_pull line ≡ false)
 unfolding after_prefix
 no_kind [] h = (refl, refl, refl)
-no_kind (o ∷ os) h = (other_octet 35 100 [] (32 ∷ []) os o h refl, other_octet 35 116 [] (32 ∷ []) os o h refl,
-    other_octet 35 112 [] (32 ∷ []) os o h refl)
+no_kind (o ∷ os) h = (
+  other_octet 35 100 [] (32 ∷ []) os o h refl,
+  other_octet 35 116 [] (32 ∷ []) os o h refl,
+  other_octet 35 112 [] (32 ∷ []) os o h refl,
+)
 
 -- the event of a line, by what it begins with and what it reports
 abbrev pub event_by : Option ℕ → Bool → Bool → Bool → Bool → Option (List ℕ) → Option Event

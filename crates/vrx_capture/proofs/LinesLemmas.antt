@@ -32,7 +32,7 @@ first_behind false o [] more = refl
 first_behind false o (p ∷ ps) more =
     let place : feed_place (p ∷ ps) + 1 ≡ 1 + feed_place (p ∷ ps) = omega arith in
     let line : lines_of (take (1 + feed_place (p ∷ ps)) (p ∷ ps)) ≡ take (feed_place (p ∷ ps)) (p ∷ ps) ∷ [] =
-        rw place at (more (omega arith)) in
+    rw place at (more (omega arith)) in
     rw (line, take_next (feed_place (p ∷ ps)) o (p ∷ ps)) refl
 
 -- up to its first line feed a text is one line
@@ -47,9 +47,12 @@ pub whole_line : (octets : List ℕ) → feed_place octets < length octets →
     AreWhole (take (feed_place octets + 1) octets)
 whole_line octets within =
     let feed : get_or octets (feed_place octets) 0 ≡ 10 =
-        eqb-true _ 10 (passes_at_first (λ octet. octet == 10) octets 0 within) in
-    inr (take (feed_place octets) octets, take_more octets (feed_place octets) 0 within
-    ∙ ap (λ (o : ℕ). take (feed_place octets) octets ++ o ∷ []) feed)
+    eqb-true _ 10 (passes_at_first (λ octet. octet == 10) octets 0 within) in
+    inr (
+      take (feed_place octets) octets,
+      take_more octets (feed_place octets) 0 within
+          ∙ ap (λ (o : ℕ). take (feed_place octets) octets ++ o ∷ []) feed,
+    )
 
 some_length : (line : List ℕ) → line ≢ [] → 0 < length line
 some_length [] some = absurd (some refl)
@@ -74,9 +77,9 @@ one_line line no_feed =
     let octets : List ℕ = line ++ 10 ∷ [] in
     let place : feed_place octets ≡ length line = feed_at_end line no_feed in
     let all : take (feed_place octets + 1) octets ≡ octets =
-        take_all (feed_place octets + 1) octets (omega (arith, place, length-append line (10 ∷ []))) in
+    take_all (feed_place octets + 1) octets (omega (arith, place, length-append line (10 ∷ []))) in
     let same : take (feed_place octets) octets ≡ line =
-        ap (λ n. take n octets) place ∙ take-append_seam line (10 ∷ []) in
+    ap (λ n. take n octets) place ∙ take-append_seam line (10 ∷ []) in
     rw (all, same) at (first_line octets (omega (arith, length-append line (10 ∷ []))))
 
 -- ---- a first line that may go on

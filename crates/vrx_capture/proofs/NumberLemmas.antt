@@ -44,7 +44,7 @@ number_from-read most value n [] within h = let same : value ≡ n =
     grind arith in record { digits = refl; number = same; bound = omega arith }
 number_from-read most value n (d ∷ ds) within h =
     let test = chosen (nat_le 48 d && nat_le d 57 && nat_le (value * 10 + (d - 48)) most)
-        (number_from most (value * 10 + (d - 48)) ds) n h in
+    (number_from most (value * 10 + (d - 48)) ds) n h in
     let fits : value * 10 + (d - 48) ≤ most = grind (arith, test.0) in
     let rest = number_from-read most (value * 10 + (d - 48)) n ds fits test.1 in
     record { digits = grind (arith, test.0, rest.digits); number = rest.number; bound = rest.bound }
@@ -84,7 +84,7 @@ number_in-read most n (d ∷ ds) fits h =
     let front : get_or (d ∷ ds) 0 0 ≡ 48 → length (d ∷ ds) ≡ 1 = λ zero_first. grind (arith, test.0) in
     let small : read_on 0 (d ∷ ds) < 2 ^ 64 = omega (arith, made.number, made.bound) in
     let same : decimal (read_on 0 (d ∷ ds)) ≡ d ∷ ds =
-        decimal-digits_value own (d ∷ ds) made.digits (omega arith) front small in
+    decimal-digits_value own (d ∷ ds) made.digits (omega arith) front small in
     (sym (rw made.number at same), made.bound)
 
 pub number_mean : (most n : ℕ) (digits : List ℕ) → most < 2 ^ 64 →

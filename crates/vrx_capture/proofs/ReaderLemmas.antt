@@ -92,17 +92,19 @@ module _ (kept : List ℕ) (ended : Bool) (len : ℕ) (first : IsFirstLine kept 
       (others : List (List ℕ)) × (lines_of (kept ++ more) ≡ take len kept ∷ others)
   first_by more may (inl whole) =
       let octets : kept ++ more ≡ take (len + 1) kept ++ (drop (len + 1) kept ++ more) =
-          ap (λ (xs : List ℕ). xs ++ more) (sym parted)
-          ∙ append_assoc (take (len + 1) kept) (drop (len + 1) kept) more in
+      ap (λ (xs : List ℕ). xs ++ more) (sym parted)
+      ∙ append_assoc (take (len + 1) kept) (drop (len + 1) kept) more in
       let lines : lines_of (kept ++ more) ≡ lines_of (take (len + 1) kept) ++ lines_of (drop (len + 1) kept ++ more) =
-          ap lines_of octets ∙ lines_join (take (len + 1) kept) (drop (len + 1) kept ++ more) whole in
-      (lines_of (drop (len + 1) kept ++ more), lines
-      ∙ ap (λ (xs : List (List ℕ)). xs ++ lines_of (drop (len + 1) kept ++ more)) gone_line)
+      ap lines_of octets ∙ lines_join (take (len + 1) kept) (drop (len + 1) kept ++ more) whole in (
+        lines_of (drop (len + 1) kept ++ more),
+        lines
+            ∙ ap (λ (xs : List (List ℕ)). xs ++ lines_of (drop (len + 1) kept ++ more)) gone_line,
+      )
   first_by more may (inr last) =
       let whole : take (len + 1) kept ≡ kept = sym (append-nil (take (len + 1) kept))
-          ∙ ap (λ (xs : List ℕ). take (len + 1) kept ++ xs) (sym last.1) ∙ parted in
+      ∙ ap (λ (xs : List ℕ). take (len + 1) kept ++ xs) (sym last.1) ∙ parted in
       let octets : kept ++ more ≡ take (len + 1) kept =
-          ap (λ (xs : List ℕ). kept ++ xs) (may last.0) ∙ append-nil kept ∙ sym whole in
+      ap (λ (xs : List ℕ). kept ++ xs) (may last.0) ∙ append-nil kept ∙ sym whole in
       ([], ap lines_of octets ∙ gone_line)
 
   -- it is the first, whatever follows
@@ -118,7 +120,7 @@ long_says : (reader : Reader) (octets : List ℕ) (lines : List (List ℕ)) → 
 long_says reader octets [] good is long = absurd (omega arith)
 long_says reader octets (line ∷ others) good is long =
     let kind : kind_of reader line ≡ Wrong (long_reason (reader.given + 1)) =
-        long_line reader.max (reader.given + 1) reader.events line long in
+    long_line reader.max (reader.given + 1) reader.events line long in
     says-first reader octets line others good is ∙ rw kind refl
 
 HasNoHead-first_length : (lines : List (List ℕ)) → longest_line < first_length lines → HasNoHead lines
@@ -201,26 +203,40 @@ module _ (old mid : Reader) (before after : Option (List ℕ))
       (passes : Passes old mid before after)
       × ((passes.gone ≡ []) × (old.given < most_lines → (more : List ℕ) → MayFollow mid more →
       HasNoHead (lines_of (old.kept ++ passes.read ++ more)))) × so passes.read
-  head_end none ended = (made_none mid refl refl refl refl,
-      (refl, λ fewer more may. rw (kept_read more) (no_head mid.kept more none (may ended))), read_so)
+  head_end none ended = (
+    made_none mid refl refl refl refl,
+    (refl, λ fewer more may. rw (kept_read more) (no_head mid.kept more none (may ended))),
+    read_so,
+  )
 
   pub head_too_long : longest_line < feed_place mid.kept →
       (passes : Passes old mid before after)
       × ((passes.gone ≡ []) × (old.given < most_lines → (more : List ℕ) → MayFollow mid more →
       HasNoHead (lines_of (old.kept ++ passes.read ++ more)))) × so passes.read
-  head_too_long long = (made_none mid refl refl refl refl,
-      (refl, λ fewer more may.
-      rw (kept_read more) (HasNoHead-first_length (lines_of (mid.kept ++ more))
-      (omega (arith, feed_le_first mid.kept more)))), read_so)
+  head_too_long long = (
+    made_none mid refl refl refl refl,
+    (
+      refl,
+      λ fewer more may.
+          rw (kept_read more) (HasNoHead-first_length (lines_of (mid.kept ++ more))
+          (omega (arith, feed_le_first mid.kept more))),
+    ),
+    read_so,
+  )
 
   pub head_given : (new : Reader) (len : ℕ) (line : List ℕ) → IsFirstLine mid.kept mid.ended len →
       new ≡ after_passing mid len 0 → line ≡ take len mid.kept →
       (passes : Passes old new before after) × ((lines_of passes.gone ≡ line ∷ []) × (length line ≤ longest_line))
       × so passes.read
   head_given new len line first is told =
-      rw (is, told) (made_line (after_passing mid len 0) len first refl refl refl refl,
-      (gone_line mid.kept mid.ended len first,
-      omega (arith, first.short, length-take-le len mid.kept (len_within mid.kept mid.ended len first))), read_so)
+      rw (is, told) (
+        made_line (after_passing mid len 0) len first refl refl refl refl,
+        (
+          gone_line mid.kept mid.ended len first,
+          omega (arith, first.short, length-take-le len mid.kept (len_within mid.kept mid.ended len first)),
+        ),
+        read_so,
+      )
 
   -- ---- events
 
@@ -231,9 +247,11 @@ module _ (old mid : Reader) (before after : Option (List ℕ))
     pub found_failed : HasNoFeed mid.kept → mid.ended ≡ false → length mid.kept ≤ longest_line →
         (passes : Passes old mid before after) × IsNext old mid passes.read passes.gone (Err faults.ReadFault)
         × so passes.read
-    found_failed no_feed going short =
-        (made_none mid refl refl refl refl, (says-none old good, no_feed, going, events_same, mid_good, short),
-        read_so)
+    found_failed no_feed going short = (
+      made_none mid refl refl refl refl,
+      (says-none old good, no_feed, going, events_same, mid_good, short),
+      read_so,
+    )
 
     pub found_end : mid.kept ≡ [] → mid.ended ≡ true →
         (passes : Passes old mid before after) × IsNext old mid passes.read passes.gone (Ok lines.End)
@@ -246,9 +264,12 @@ module _ (old mid : Reader) (before after : Option (List ℕ))
         fault ≡ faults.Bad (mid.given + 1) (long_reason (mid.given + 1)) → longest_line < feed_place mid.kept →
         (passes : Passes old new before after) × IsNext old new passes.read passes.gone (Err fault) × so passes.read
     found_too_long new fault is told long =
-        rw (told, is) (made_none
-        (record mid { bad = Some (mid.given + 1, long_reason (mid.given + 1)) }) refl refl refl refl,
-        (all, events_same, refl), read_so)
+        rw (told, is) (
+          made_none
+              (record mid { bad = Some (mid.given + 1, long_reason (mid.given + 1)) }) refl refl refl refl,
+          (all, events_same, refl),
+          read_so,
+        )
       where
         all : AllSayBad old (record mid { bad = Some (mid.given + 1, long_reason (mid.given + 1)) })
             (old.kept ++ reads.read) (mid.given + 1, long_reason (mid.given + 1))
@@ -279,19 +300,22 @@ module _ (old mid : Reader) (before after : Option (List ℕ))
         (passes : Passes old (after_passing mid len 1) before after)
         × IsNext old (after_passing mid len 1) passes.read passes.gone (Ok (lines.Event (mid.given + 1) event))
         × so passes.read
-    event_given len event first is fewer =
-        (made_line (after_passing mid len 1) len first refl refl refl refl,
-        (says_gone len (Happens event) first is, ap (λ (n : ℕ). n + 1) events_same, fewer, mid_good), read_so)
+    event_given len event first is fewer = (
+      made_line (after_passing mid len 1) len first refl refl refl refl,
+      (says_gone len (Happens event) first is, ap (λ (n : ℕ). n + 1) events_same, fewer, mid_good),
+      read_so,
+    )
 
     bad_given : (len : ℕ) (reason : LineReason) → IsFirstLine mid.kept mid.ended len →
         kind_of mid (take len mid.kept) ≡ Wrong reason →
         (passes : Passes old (record mid { bad = Some (mid.given + 1, reason) }) before after)
         × IsNext old (record mid { bad = Some (mid.given + 1, reason) }) passes.read passes.gone
         (Err (faults.Bad (mid.given + 1) reason)) × so passes.read
-    bad_given len reason first is =
-        (made_none (record mid { bad = Some (mid.given + 1, reason) }) refl refl refl refl,
-        (wrong_all (record mid { bad = Some (mid.given + 1, reason) }) len reason first is refl, events_same, refl),
-        read_so)
+    bad_given len reason first is = (
+      made_none (record mid { bad = Some (mid.given + 1, reason) }) refl refl refl refl,
+      (wrong_all (record mid { bad = Some (mid.given + 1, reason) }) len reason first is refl, events_same, refl),
+      read_so,
+    )
 
     pub found_taken : (new : Reader) (len : ℕ) (result : Result (Option Line) LineFault) →
         IsFirstLine mid.kept mid.ended len → IsTaken mid (kind_of mid (take len mid.kept)) len new result →

@@ -87,11 +87,11 @@ good-write max k events [] given none = none_write max k events given none
 good-write max k events (line ∷ lines) given (inl (blank, rest)) =
     let none : events + 0 ≡ events = omega arith in
     let others : reading max (k + 1) (events + 0) lines ≡ sound given =
-        rw none (good-write max (k + 1) events lines given rest) in
+    rw none (good-write max (k + 1) events lines given rest) in
     first_reading max k events line lines Blank ((blank_mean max k events line).1 blank) ∙ others
 good-write max k events (line ∷ lines) given (inr (event, others, is, told, rest)) =
     let shown : reading max (k + 1) (events + 1) lines ≡ sound others =
-        good-write max (k + 1) (events + 1) lines others rest in
+    good-write max (k + 1) (events + 1) lines others rest in
     first_reading max k events line lines (Happens event) (event-write max k events line event is)
     ∙ rw (shown, told) refl
 
@@ -184,16 +184,16 @@ bad-write : (max k events : ℕ) (lines : List (List ℕ)) (given : List (ℕ ×
     reading max k events lines ≡ record { events = given; bad = Some (j, reason) }
 bad-write max k events lines given j reason bad =
     let kind : line_at max j (events + length given) bad.line ≡ Wrong reason =
-        (wrong_mean max j (events + length given) bad.line reason).1 bad.why in
+    (wrong_mean max j (events + length given) bad.line reason).1 bad.why in
     let last : reading max j (events + length given) (bad.line ∷ bad.behind) ≡ bad_at (j, reason) =
-        first_reading max j (events + length given) bad.line bad.behind (Wrong reason) kind in
+    first_reading max j (events + length given) bad.line bad.behind (Wrong reason) kind in
     let joined : reading max k events (bad.before ++ bad.line ∷ bad.behind) ≡ behind_events given
-        (reading max (k + length bad.before) (events + length given) (bad.line ∷ bad.behind)) =
-        readings_join max k events bad.before (bad.line ∷ bad.behind) given
-        (good-write max k events bad.before given bad.good) in
+    (reading max (k + length bad.before) (events + length given) (bad.line ∷ bad.behind)) =
+    readings_join max k events bad.before (bad.line ∷ bad.behind) given
+    (good-write max k events bad.before given bad.good) in
     let told : behind_events given
-        (reading max (k + length bad.before) (events + length given) (bad.line ∷ bad.behind)) ≡ behind_events given
-        (bad_at (j, reason)) = rw (sym bad.number, last) refl in
+    (reading max (k + length bad.before) (events + length given) (bad.line ∷ bad.behind)) ≡ behind_events given
+    (bad_at (j, reason)) = rw (sym bad.number, last) refl in
     rw bad.order (joined ∙ told ∙ rw (append-nil given) refl)
 
 pub bad_mean : (max k events : ℕ) (lines : List (List ℕ)) (given : List (ℕ × Event)) (j : ℕ) (reason : LineReason) →

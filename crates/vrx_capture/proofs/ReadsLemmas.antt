@@ -24,9 +24,12 @@ module _ {S : Type 0} (is_read : S → List ℕ → S → Type 0) where
   join allow kept old mid new [] more first second =
       subst (λ s. AreReads is_read allow kept s more new) first
       (subst (λ k. AreReads is_read allow k mid more new) (append-nil kept) second)
-  join allow kept old mid new ((octets, source) ∷ reads) more first second =
-      (first.0, first.1, join allow (kept ++ octets) source mid new reads more first.2
-      (subst (λ k. AreReads is_read allow k mid more new) (sym (append_assoc kept octets (all_read reads))) second))
+  join allow kept old mid new ((octets, source) ∷ reads) more first second = (
+    first.0,
+    first.1,
+    join allow (kept ++ octets) source mid new reads more first.2
+        (subst (λ k. AreReads is_read allow k mid more new) (sym (append_assoc kept octets (all_read reads))) second),
+  )
 
   -- reads seen with more octets before them, when these allow them too
   shift : (allow wide : List ℕ → Type 0) (front kept : List ℕ) (old new : S) (reads : List (List ℕ × S)) →
@@ -34,10 +37,12 @@ module _ {S : Type 0} (is_read : S → List ℕ → S → Type 0) where
       AreReads is_read wide (front ++ kept) old reads new
   unfolding AreReads
   shift allow wide front kept old new [] weaker were = were
-  shift allow wide front kept old new ((octets, source) ∷ reads) weaker were =
-      (weaker kept were.0, were.1,
-      subst (λ k. AreReads is_read wide k source reads new) (sym (append_assoc front kept octets))
-      (shift allow wide front (kept ++ octets) source new reads weaker were.2))
+  shift allow wide front kept old new ((octets, source) ∷ reads) weaker were = (
+    weaker kept were.0,
+    were.1,
+    subst (λ k. AreReads is_read wide k source reads new) (sym (append_assoc front kept octets))
+        (shift allow wide front (kept ++ octets) source new reads weaker were.2),
+  )
 
   -- no read
   pub reads_nothing : (allow : List ℕ → Type 0) (kept : List ℕ) (source : S) →

@@ -120,9 +120,11 @@ unfolding until_space after_space
 until_space-parts text = elim (cases_lt (position_or_len (λ octet. octet == 32) text) (length text)) [
   | inl within ↦
       let space : get_or text (position_or_len (λ octet. octet == 32) text) 0 ≡ 32 =
-          eqb-true _ 32 (passes_at_first (λ octet. octet == 32) text 0 within) in
-      (32 ∷ after_space text, rw space at (split_at_first (λ octet. octet == 32) text 0 within),
-      inr (after_space text, refl))
+      eqb-true _ 32 (passes_at_first (λ octet. octet == 32) text 0 within) in (
+        32 ∷ after_space text,
+        rw space at (split_at_first (λ octet. octet == 32) text 0 within),
+        inr (after_space text, refl),
+      )
   | inr beyond ↦ ([], sym (append-nil (until_space text) ∙ take_all _ text (omega arith)), inl refl)
 ]
 
@@ -160,7 +162,7 @@ plain_by : (space : Bool) (o : ℕ) (os : List ℕ) → (o == 32) ≡ space →
 plain_by true o os e more = refl
 plain_by false o os e more =
     let next : 1 + position_or_len (λ octet. octet == 32) os ≡ suc (position_or_len (λ octet. octet == 32) os) =
-        omega arith in rw (next, e) more
+    omega arith in rw (next, e) more
 
 until_space-plain : (text : List ℕ) → list_any (λ octet. octet == 32) (until_space text) ≡ false
 unfolding until_space
@@ -187,7 +189,7 @@ plain-of false never = refl
 octets-write : (line octets : List ℕ) → TellsOctets line octets → bytes_in line ≡ Some octets
 octets-write line octets is =
     let plain : list_any (λ octet. octet == 32) is.word ≡ false =
-        plain-of (list_any (λ octet. octet == 32) is.word) is.plain in
+    plain-of (list_any (λ octet. octet == 32) is.word) is.plain in
     rw (is.spelled ∙ append_assoc is.word (codes " ") is.digits, (until_space-write is.word is.digits plain).1)
     (octets_in-write is.digits octets is.hex is.some)
 
@@ -195,8 +197,11 @@ octets-write line octets is =
 
 kind_row : (line : List ℕ) →
     (not (is_blank line || is_event line) ≡ true) ↔ ((IsBlankLine line ⊎ BeginsEvent line) → ⊥)
-kind_row line = (λ h is. not-read (is_blank line || is_event line) h (known is), λ no.
-    not-write (is_blank line || is_event line) (λ h. no (shown (or-read (is_blank line) (is_event line) h))))
+kind_row line = (
+  λ h is. not-read (is_blank line || is_event line) h (known is),
+  λ no.
+      not-write (is_blank line || is_event line) (λ h. no (shown (or-read (is_blank line) (is_event line) h))),
+)
   where
     known : IsBlankLine line ⊎ BeginsEvent line → (is_blank line || is_event line) ≡ true
     known (inl blank) = or-write (is_blank line) (is_event line) (inl (blank-write line blank))
@@ -234,12 +239,15 @@ hex_row : (line : List ℕ) →
     ((is_datagram line && is_none (bytes_in line)) ≡ true)
     ↔ (BeginsWith (codes "d ") line × ((octets : List ℕ) → TellsOctets line octets → ⊥))
 hex_row line = (
-  λ h. let both = and-read (is_datagram line) (is_none (bytes_in line)) h in
-      (begins-read (codes "d ") line both.0, λ octets tells.
-      none-read (bytes_in line) octets both.1 (octets-write line octets tells)),
-  λ is. and-write (is_datagram line) (is_none (bytes_in line))
-      (begins-write (codes "d ") line is.0,
-      none-write (bytes_in line) (λ octets h. is.1 octets (octets-read line octets h))),
+  λ h. let both = and-read (is_datagram line) (is_none (bytes_in line)) h in (
+    begins-read (codes "d ") line both.0,
+    λ octets tells.
+        none-read (bytes_in line) octets both.1 (octets-write line octets tells),
+  ),
+  λ is. and-write (is_datagram line) (is_none (bytes_in line)) (
+    begins-write (codes "d ") line is.0,
+    none-write (bytes_in line) (λ octets h. is.1 octets (octets-read line octets h)),
+  ),
 )
 
 -- a list of rows, each of which holds exactly if its reason has a property
@@ -253,10 +261,13 @@ Ordered n [] = 7 ≤ n
 Ordered n ((applies, reason) ∷ rows) = (rank reason ≡ n) × Ordered (n + 1) rows
 
 rows_mean : (max k events : ℕ) (line : List ℕ) → RowsMean (IsBad max k events line) (reasons max k events line)
-rows_mean max k events line =
-    ((ltb-true most_lines k, lt-ltb most_lines k),
-    ((ltb-true longest_line (length line), lt-ltb longest_line (length line)),
-    (kind_row line, (events_row max events line, (moment_row line, (end_row line, (hex_row line, tt)))))))
+rows_mean max k events line = (
+  (ltb-true most_lines k, lt-ltb most_lines k),
+  (
+    (ltb-true longest_line (length line), lt-ltb longest_line (length line)),
+    (kind_row line, (events_row max events line, (moment_row line, (end_row line, (hex_row line, tt))))),
+  ),
+)
 
 reason_at : ℕ → LineReason
 reason_at n = if n == 0 then Lines else if n == 1 then Long else if n == 2 then Kind else if n == 3 then Events
@@ -291,9 +302,12 @@ first-shows : (P : LineReason → Type 0) (n : ℕ) (rows : List (Bool × LineRe
     P r × (n ≤ rank r) × ((other : LineReason) → n ≤ rank other → rank other < rank r → P other → ⊥)
 first-shows P n [] r order mean h = cc h
 first-shows P n ((true, a) ∷ rows) r order mean h =
-    let same : a ≡ r = cc h in
-    (subst P same (mean.0.0 refl), omega (arith, order.0, ap rank same), λ other at below is.
-    absurd (omega (arith, order.0, ap rank same)))
+    let same : a ≡ r = cc h in (
+      subst P same (mean.0.0 refl),
+      omega (arith, order.0, ap rank same),
+      λ other at below is.
+          absurd (omega (arith, order.0, ap rank same)),
+    )
 first-shows P n ((false, a) ∷ rows) r order mean h =
     let more = first-shows P (n + 1) rows r order.1 mean.1 h in (
       more.0,
@@ -337,8 +351,8 @@ wrong-shows : (max k events : ℕ) (line : List ℕ) (reason : LineReason) → l
 unfolding line_at
 wrong-shows max k events line reason h =
     let first = first-shows (IsBad max k events line) 0 (reasons max k events line) reason (ordered max k events line)
-        (rows_mean max k events line)
-        (said_wrong (first_reason (reasons max k events line)) (event_in line) reason h) in
+    (rows_mean max k events line)
+    (said_wrong (first_reason (reasons max k events line)) (event_in line) reason h) in
     (first.0, λ other below is. first.2 other (omega arith) below is)
 
 wrong-write : (max k events : ℕ) (line : List ℕ) (reason : LineReason) → IsFirstReason max k events line reason →
@@ -346,8 +360,8 @@ wrong-write : (max k events : ℕ) (line : List ℕ) (reason : LineReason) → I
 unfolding line_at
 wrong-write max k events line reason is =
     let first : first_reason (reasons max k events line) ≡ Some reason =
-        first-write (IsBad max k events line) 0 (reasons max k events line) reason (ordered max k events line)
-        (rows_mean max k events line) (omega arith) is.0 is.1 in
+    first-write (IsBad max k events line) 0 (reasons max k events line) reason (ordered max k events line)
+    (rows_mean max k events line) (omega arith) is.0 is.1 in
     rw first refl
 
 pub wrong_mean : (max k events : ℕ) (line : List ℕ) (reason : LineReason) →
@@ -458,9 +472,11 @@ blank-shows : (max k events : ℕ) (line : List ℕ) → line_at max k events li
 unfolding line_at
 blank-shows max k events line h =
     let none = said_blank (first_reason (reasons max k events line)) (event_in line) h in
-    let passed = passed_line max k events line none.0 in
-    (ltb-false most_lines k passed.few, ltb-false longest_line (length line) passed.short,
-    blank-read line (is_nothing (is_blank line) (is_event line) passed.known (no_more line passed.none none.1)))
+    let passed = passed_line max k events line none.0 in (
+      ltb-false most_lines k passed.few,
+      ltb-false longest_line (length line) passed.short,
+      blank-read line (is_nothing (is_blank line) (is_event line) passed.known (no_more line passed.none none.1)),
+    )
 
 pub blank_mean : (max k events : ℕ) (line : List ℕ) →
     (line_at max k events line ≡ Blank) ↔ ((k ≤ most_lines) × (length line ≤ longest_line) × IsBlankLine line)
@@ -473,9 +489,12 @@ unfolding line_at
 happens-shows max k events line event h =
     let shown = said_happens (first_reason (reasons max k events line)) (event_in line) event h in
     let passed = passed_line max k events line shown.0 in
-    let is : is_event line ≡ true = is_told (is_event line) line event refl shown.1 in
-    (ltb-false most_lines k passed.few, ltb-false longest_line (length line) passed.short,
-    leb-false max events (passed.fewer is), shown.1)
+    let is : is_event line ≡ true = is_told (is_event line) line event refl shown.1 in (
+      ltb-false most_lines k passed.few,
+      ltb-false longest_line (length line) passed.short,
+      leb-false max events (passed.fewer is),
+      shown.1,
+    )
 
 happens-write : (max k events : ℕ) (line : List ℕ) (event : Event) →
     (k ≤ most_lines) × (length line ≤ longest_line) × (events < max) × (event_in line ≡ Some event) →

@@ -55,16 +55,16 @@ module _ (old mid : Reader) (before between : Option (List ℕ)) (first : GoesOn
   says-whole octets whole =
       let n : ℕ = length (lines_of first.passes.gone) in
       let nothing : reading old.max (old.given + 1) old.events (lines_of first.passes.gone) ≡ sound [] =
-          rw good at first.nothing in
+      rw good at first.nothing in
       let joined : reading old.max (old.given + 1) old.events (lines_of first.passes.gone ++ lines_of octets)
-          ≡ behind_events [] (reading old.max (old.given + 1 + n) (old.events + 0) (lines_of octets)) =
-          readings_join old.max (old.given + 1) old.events (lines_of first.passes.gone)
-          (lines_of octets) [] nothing in
+      ≡ behind_events [] (reading old.max (old.given + 1 + n) (old.events + 0) (lines_of octets)) =
+      readings_join old.max (old.given + 1) old.events (lines_of first.passes.gone)
+      (lines_of octets) [] nothing in
       let number : old.given + 1 + n ≡ mid.given + 1 = omega (arith, first.passes.given) in
       let count : old.events + 0 ≡ mid.events = omega (arith, first.events) in
       let same : reading old.max (old.given + 1) old.events (lines_of first.passes.gone ++ lines_of octets)
-          ≡ reading mid.max (mid.given + 1) mid.events (lines_of octets) =
-          rw (sym number, sym count, first.passes.max) joined in
+      ≡ reading mid.max (mid.given + 1) mid.events (lines_of octets) =
+      rw (sym number, sym count, first.passes.max) joined in
       rw (good, first.bad, lines_join first.passes.gone octets whole) same
 
   pub says-on : (octets : List ℕ) → AreWhole first.passes.gone ⊎ (octets ≡ []) →
@@ -151,8 +151,8 @@ module _ (old mid : Reader) (before between : Option (List ℕ)) (first : GoesOn
         AllSayBad old new (old.kept ++ (first.passes.read ++ second.read)) bad
     bad-both bad all more may =
         let octets : (old.kept ++ (first.passes.read ++ second.read)) ++ more ≡ first.passes.gone
-            ++ ((mid.kept ++ second.read) ++ more) = ap (λ (xs : List ℕ). xs ++ more) all_octets
-            ∙ append_assoc first.passes.gone (mid.kept ++ second.read) more in
+        ++ ((mid.kept ++ second.read) ++ more) = ap (λ (xs : List ℕ). xs ++ more) all_octets
+        ∙ append_assoc first.passes.gone (mid.kept ++ second.read) more in
         rw octets (says-on ((mid.kept ++ second.read) ++ more) (bad_or_none more may first.passes.whole)
         ∙ all more may)
 
@@ -170,7 +170,13 @@ module _ (old mid : Reader) (before between : Option (List ℕ)) (first : GoesOn
       SayNothing old (first.passes.gone ++ octets)
   part_says whole octets short =
       record {
-      lines = first.passes.gone; part = octets; are = refl; whole = whole; short = short; nothing = first.nothing }
+        lines = first.passes.gone;
+        part = octets;
+        are = refl;
+        whole = whole;
+        short = short;
+        nothing = first.nothing;
+      }
 
   -- it reads on, if its source wasn't at its end
   module _ {S : Type 0} (is_read : S → List ℕ → S → Type 0) (start was now : S)

@@ -82,8 +82,10 @@ codec_plain H264 = refl
 
 codec_spells : Spells codec_in codec_text (λ codec. Unit {0})
 codec_spells = record {
-    back = λ w codec h. (codec_back w codec h, tt); forth = λ codec fits. codec_forth codec; plain =
-    λ codec fits. codec_plain codec }
+  back = λ w codec h. (codec_back w codec h, tt);
+  forth = λ codec fits. codec_forth codec;
+  plain = λ codec fits. codec_plain codec;
+}
 
 -- ---- fields
 
@@ -146,7 +148,7 @@ red_back text told h =
     let second = (type_if_reads (codes " fec=")).back red.0.1 fec.0 fec.1 in
     let front : List ℕ = codes " red=" ++ decimal red.0.0 in
     let whole : text ≡ red_text (Some read) ++ fec.0.1 = first.0 ∙ ap (λ (octets : List ℕ). front ++ octets) second.0
-        ∙ sym (append_assoc front (number_text (codes " fec=") fec.0.0) fec.0.1) in
+    ∙ sym (append_assoc front (number_text (codes " fec=") fec.0.0) fec.0.1) in
     subst (λ (t : Red × List ℕ). (text ≡ red_text (Some t.0) ++ t.1) × FitsRed t.0) same (whole, (first.1, second.1))
 
 red_forth : (red : Red) (rest : List ℕ) → FitsRed red → ends_if (codes " fec=") is_apart rest ≡ true →
@@ -164,8 +166,10 @@ red_forth red rest fits ends =
 red_if_reads : Reads (group_if (codes " red=") red_in) red_text (λ red. IfSome red FitsRed)
     (ends_if (codes " red=") (ends_if (codes " fec=") is_apart))
 red_if_reads = part_reads (codes " red=") red_in red_text FitsRed (ends_if (codes " fec=") is_apart) refl
-    (λ red. (decimal red.red_type ++ number_text (codes " fec=") red.fec_type,
-    append_assoc (codes " red=") (decimal red.red_type) (number_text (codes " fec=") red.fec_type)))
+    (λ red. (
+      decimal red.red_type ++ number_text (codes " fec=") red.fec_type,
+      append_assoc (codes " red=") (decimal red.red_type) (number_text (codes " fec=") red.fec_type),
+    ))
     (record { back = red_back; forth = red_forth })
 
 rtx_grouped : (a n d r rest : List ℕ) → (a ++ n ++ d ++ r) ++ rest ≡ a ++ ((n ++ d) ++ (r ++ rest))
@@ -198,10 +202,10 @@ rtx_forth rtx rest fits ends =
     let behind_media : List ℕ = number_text (codes " rtxred=") rtx.red_rtx_type ++ rest in
     let behind_ssrc : List ℕ = (codes " rtx=" ++ decimal rtx.media_rtx_type) ++ behind_media in
     let apart : is_apart behind_media ≡ true =
-        number_apart (codes "rtxred=") rtx.red_rtx_type rest (and_parts _ _ ends).0 in
+    number_apart (codes "rtxred=") rtx.red_rtx_type rest (and_parts _ _ ends).0 in
     rw (
       rtx_grouped (codes " rtxssrc=" ++ ssrc_text rtx.ssrc) (codes " rtx=") (decimal rtx.media_rtx_type)
-      (number_text (codes " rtxred=") rtx.red_rtx_type) rest,
+          (number_text (codes " rtxred=") rtx.red_rtx_type) rest,
       (ssrc_reads (codes " rtxssrc=")).forth rtx.ssrc behind_ssrc fits.0 refl,
       (type_reads (codes " rtx=")).forth rtx.media_rtx_type behind_media fits.1 apart,
       (type_if_reads (codes " rtxred=")).forth rtx.red_rtx_type rest fits.2 ends,
@@ -233,8 +237,8 @@ last_back text n h =
     let last = ended n (unwrap_or interval.0.0 usual_interval) interval.0.1 interval.2 in
     let read = (interval_if_reads (codes " interval=")).back text interval.0 interval.1 in
     let whole : text ≡ interval_text interval.0.0 = read.0
-        ∙ ap (λ (octets : List ℕ). interval_text interval.0.0 ++ octets) last.0
-        ∙ append-nil (interval_text interval.0.0) in
+    ∙ ap (λ (octets : List ℕ). interval_text interval.0.0 ++ octets) last.0
+    ∙ append-nil (interval_text interval.0.0) in
     (interval.0.0, whole, last.1, read.1)
 
 nothing_ends : ends_if (codes " interval=") is_apart [] ≡ true
@@ -246,10 +250,10 @@ last_forth : (told : Option ℕ) → IfSome told FitsInterval →
 unfolding last_interval
 last_forth told fits =
     let read : field_if (codes " interval=") interval_in (interval_text told ++ []) ≡ Some (told, []) =
-        (interval_if_reads (codes " interval=")).forth told [] fits nothing_ends in
+    (interval_if_reads (codes " interval=")).forth told [] fits nothing_ends in
     let whole : field_if (codes " interval=") interval_in (interval_text told) ≡ Some (told, []) =
-        subst (λ (octets : List ℕ). field_if (codes " interval=") interval_in octets ≡ Some (told, []))
-        (append-nil (interval_text told)) read in
+    subst (λ (octets : List ℕ). field_if (codes " interval=") interval_in octets ≡ Some (told, []))
+    (append-nil (interval_text told)) read in
     rw whole refl
 
 told_fits : (told : Option ℕ) (n : ℕ) → n ≡ unwrap_or told usual_interval → n ≤ longest_interval →
@@ -347,10 +351,10 @@ all_fit : (settings : Settings) → All FitsType (types_of settings) → All Fit
     AllFit settings
 all_fit settings types ssrcs =
     let type = five_split FitsType (Some settings.media_type) (option_map (λ r. r.red_type) settings.red)
-        (option_and_then (λ r. r.fec_type) settings.red) (option_map (λ r. r.media_rtx_type) settings.rtx)
-        (option_and_then (λ r. r.red_rtx_type) settings.rtx) types in
+    (option_and_then (λ r. r.fec_type) settings.red) (option_map (λ r. r.media_rtx_type) settings.rtx)
+    (option_and_then (λ r. r.red_rtx_type) settings.rtx) types in
     let ssrc = three_split FitsSsrc (Some settings.media_ssrc) (option_map (λ r. r.ssrc) settings.rtx)
-        (Some settings.from_ssrc) ssrcs in
+    (Some settings.from_ssrc) ssrcs in
     record {
       type = type.0;
       red = red_joined settings.red type.1 type.2;
@@ -373,7 +377,7 @@ line_joined : (line t1 t2 t3 t4 t5 t6 vrx codec ssrc media pt type red rtx from 
     line ≡ vrx ++ codec ++ ssrc ++ media ++ pt ++ type ++ red ++ rtx ++ from ++ sender ++ interval
 line_joined line t1 t2 t3 t4 t5 t6 vrx codec ssrc media pt type red rtx from sender interval e0 e1 e2 e3 e4 e5 e6 =
     let whole : line ≡ (vrx ++ codec)
-        ++ ((ssrc ++ media) ++ ((pt ++ type) ++ (red ++ (rtx ++ ((from ++ sender) ++ interval))))) = cc in
+    ++ ((ssrc ++ media) ++ ((pt ++ type) ++ (red ++ (rtx ++ ((from ++ sender) ++ interval))))) = cc in
     whole ∙ sym (line_grouped vrx codec ssrc media pt type red rtx from sender interval)
 
 settings_back : (line : List ℕ) (told : CodecName × Settings) → settings_in line ≡ Some told →
@@ -388,8 +392,13 @@ settings_back line told h =
     let from = bind_some (field (codes " from=") ssrc_in rtx.0.1) _ told rtx.2 in
     let interval = bind_some (last_interval from.0.1) _ told from.2 in
     let read : Settings = record {
-        media_ssrc = media.0.0; media_type = type.0.0; red = red.0.0; rtx = rtx.0.0; from_ssrc = from.0.0; interval =
-        interval.0 } in
+      media_ssrc = media.0.0;
+      media_type = type.0.0;
+      red = red.0.0;
+      rtx = rtx.0.0;
+      from_ssrc = from.0.0;
+      interval = interval.0;
+    } in
     let same : (codec.0.0, read) ≡ told = same_value (codec.0.0, read) told interval.2 in
     let is_codec = (codec_reads (codes "vrx 1 codec=")).back line codec.0 codec.1 in
     let is_media = (ssrc_reads (codes " ssrc=")).back codec.0.1 media.0 media.1 in
@@ -399,7 +408,7 @@ settings_back line told h =
     let is_from = (ssrc_reads (codes " from=")).back rtx.0.1 from.0 from.1 in
     let last = last_back from.0.1 interval.0 interval.1 in
     let fit : AllFit read =
-        record { type = is_type.1; red = is_red.1; rtx = is_rtx.1; media = is_media.1; from = is_from.1 } in
+    record { type = is_type.1; red = is_red.1; rtx = is_rtx.1; media = is_media.1; from = is_from.1 } in
     let is : IsSettingsLine line codec.0.0 read = record {
       told = last.0;
       spelled = line_joined line codec.0.1 media.0.1 type.0.1 red.0.1 rtx.0.1 from.0.1 (codes "vrx 1 codec=")
@@ -451,12 +460,12 @@ settings_forth line codec settings is =
     let t1 : List ℕ = (codes " ssrc=" ++ ssrc_text settings.media_ssrc) ++ t2 in
     rw (
       is.spelled ∙ line_grouped (codes "vrx 1 codec=") (codec_text codec) (codes " ssrc=")
-      (ssrc_text settings.media_ssrc) (codes " pt=") (decimal settings.media_type) (red_text settings.red)
-      (rtx_text settings.rtx) (codes " from=") sender t6,
+          (ssrc_text settings.media_ssrc) (codes " pt=") (decimal settings.media_type) (red_text settings.red)
+          (rtx_text settings.rtx) (codes " from=") sender t6,
       (codec_reads (codes "vrx 1 codec=")).forth codec t1 tt refl,
       (ssrc_reads (codes " ssrc=")).forth settings.media_ssrc t2 fit.media refl,
       (type_reads (codes " pt=")).forth settings.media_type t3 fit.type
-      (type_ends settings.red settings.rtx sender t6),
+          (type_ends settings.red settings.rtx sender t6),
       red_if_reads.forth settings.red t4 fit.red (red_ends settings.rtx sender t6),
       rtx_if_reads.forth settings.rtx t5 fit.rtx (rtx_ends sender t6),
       (ssrc_reads (codes " from=")).forth settings.from_ssrc t6 fit.from (from_ends is.told),

@@ -87,9 +87,11 @@ back_on c v true (Some w) test plain read = cc plain
 back_on c v false (Some w) test plain read =
     let same : w ≡ v = grind (arith, read) in
     let parts = and_parts (slice_index lower_digits w == c) (nat_lt w 16) test in
-    let below : w < 16 = grind (arith, parts.1) in
-    (ap (λ (n : ℕ). slice_index lower_digits n) (sym same)
-    ∙ eqb-true (slice_index lower_digits w) c parts.0, omega arith)
+    let below : w < 16 = grind (arith, parts.1) in (
+      ap (λ (n : ℕ). slice_index lower_digits n) (sym same)
+          ∙ eqb-true (slice_index lower_digits w) c parts.0,
+      omega arith,
+    )
 
 digit_back : (c v : ℕ) → is_upper c ≡ false → hex_digit_value c ≡ Some v → (slice_index lower_digits v ≡ c) × (v < 16)
 digit_back c v plain read =
@@ -160,16 +162,18 @@ pub ssrc_in-read : (ds : List ℕ) (n : ℕ) → ssrc_in ds ≡ Some n →
 unfolding ssrc_in
 ssrc_in-read ds n h =
     let test =
-        not_chosen (list_any is_upper ds) (option_map (from_be_bytes w32) (result_ok (decode_sized ds 4))) n h in
+    not_chosen (list_any is_upper ds) (option_map (from_be_bytes w32) (result_ok (decode_sized ds 4))) n h in
     let read = mapped (decode_sized ds 4) n test.1 in
     let len : length ds ≡ 2 * 4 = decode_sized-ok ds 4 read.0 read.1 in
     let whole : decode_of ds ≡ Ok read.0 = sym (decode_sized-twice ds 4 len) ∙ read.1 in
     let ok = decode_of-ok ds read.0 whole in
     let pairs : decode_pairs 0 ds ≡ Ok read.0 = sym (decode_of-even ds ok.0) ∙ whole in
     let four : length read.0 ≡ 4 = omega (arith, len, ok.2) in
-    let octets : to_be_bytes w32 n ≡ read.0 = be_bytes_4 read.0 n four ok.3 read.2 in
-    (pairs_back 0 ds read.0 pairs test.0
-    ∙ ap encode_lower (sym octets), subst (λ (k : ℕ). k < 2 ^ 32) (sym read.2) (below_32 read.0 ok.3))
+    let octets : to_be_bytes w32 n ≡ read.0 = be_bytes_4 read.0 n four ok.3 read.2 in (
+      pairs_back 0 ds read.0 pairs test.0
+          ∙ ap encode_lower (sym octets),
+      subst (λ (k : ℕ). k < 2 ^ 32) (sym read.2) (below_32 read.0 ok.3),
+    )
 
 pub octets_fit : (n : ℕ) → IsBytes (to_be_bytes w32 n)
 octets_fit n zero = omega arith
@@ -182,7 +186,7 @@ pub ssrc_in-write : (n : ℕ) → n < 2 ^ 32 → ssrc_in (encode_lower (to_be_by
 unfolding ssrc_in
 ssrc_in-write n fits =
     let plain : list_any is_upper (encode_lower (to_be_bytes w32 n)) ≡ false =
-        (encoded_plain (to_be_bytes w32 n) (octets_fit n)).0 in
+    (encoded_plain (to_be_bytes w32 n) (octets_fit n)).0 in
     let read : decode_sized (encode_lower (to_be_bytes w32 n)) 4 ≡ Ok (to_be_bytes w32 n) =
-        decode_sized-encode_lower (to_be_bytes w32 n) 4 refl (octets_fit n) in
+    decode_sized-encode_lower (to_be_bytes w32 n) 4 refl (octets_fit n) in
     rw (plain, read) (ap Some (from_be_bytes-to_be_bytes_4 n fits))

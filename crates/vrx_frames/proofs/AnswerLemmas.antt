@@ -81,11 +81,16 @@ answer-span codec place packets facts passed n told found = either found.span fo
   either None f is = absurd (none-some told (sym is))
   either (Some span) f is =
       let made : (octets : ℕ) × (octets_of codec (parts_from codec packets span.first (span.last - span.first + 1))
-          ≡ Some octets) × (_ ≡ told) =
-          option_map-some _ (octets_of codec (parts_from codec packets span.first (span.last - span.first + 1))) told
-          (sym is) in
+      ≡ Some octets) × (_ ≡ told) =
+      option_map-some _ (octets_of codec (parts_from codec packets span.first (span.last - span.first + 1))) told
+      (sym is) in
       record {
-          span = span; whole = f.0; from = f.1; upto = f.2; first_is = sym (ap (λ (t : RunSummary). t.first) made.2) }
+        span = span;
+        whole = f.0;
+        from = f.1;
+        upto = f.2;
+        first_is = sym (ap (λ (t : RunSummary). t.first) made.2);
+      }
 
 -- of two answers the first has the number told, and the second begins with the number after it
 pub answers-rise : (codec : Meaning) (place : ℕ → Option Place) (packets : Packets) (passed : Option ℕ) (n : ℕ)
@@ -101,24 +106,26 @@ answers-rise codec place packets passed n entries (Some x) None first second = (
 answers-rise codec place packets passed n entries (Some x) (Some y) first (inl none) = absurd (none-some y (sym none))
 answers-rise codec place packets passed n entries (Some x) (Some y) first (inr second) =
     let s : AnswerSpan (fact_at passed entries) n x =
-        answer-span codec place packets (fact_at passed entries) passed n x first in
+    answer-span codec place packets (fact_at passed entries) passed n x first in
     let t : AnswerSpan (fact_at passed entries) (n + 1) y =
-        answer-span codec place packets (fact_at passed entries) passed (n + 1) y second.1 in
+    answer-span codec place packets (fact_at passed entries) passed (n + 1) y second.1 in
     let sits : Sits (fact_at passed entries) t.span.ts t.span.first t.span.last (n + 1) =
-        t.whole.linked.each (n + 1) t.from t.upto in
+    t.whole.linked.each (n + 1) t.from t.upto in
     let starts : sits.fact.starts ≡ true =
-        sym (ap (λ o. option_map_or (λ (f : Fact). f.starts) o false) sits.told) ∙ second.0 in
+    sym (ap (λ o. option_map_or (λ (f : Fact). f.starts) o false) sits.told) ∙ second.0 in
     let x_first : x.first ≡ s.span.first = s.first_is in
     let x_upto : s.span.first ≤ n = s.from in
     let y_first : y.first ≡ t.span.first = t.first_is in
     let here : t.span.first ≡ n + 1 =
-        begins t.span.first t.from (λ less. true≢false (sym starts ∙ sits.later less)) in
+    begins t.span.first t.from (λ less. true≢false (sym starts ∙ sits.later less)) in
     let less : x.first < y.first = omega arith in
     ((less_than x.first y.first less, tt), (tt, tt)) where
       begins : (k : ℕ) → k ≤ n + 1 → (k < n + 1 → ⊥) → k ≡ n + 1
       begins k from upto = elim (cases_order k
-          (n + 1)) [ inl same ↦ same | inr
-          other ↦ elim other [ inl less ↦ absurd (upto less) | inr more ↦ absurd (omega arith) ] ]
+          (n + 1)) [
+            | inl same ↦ same
+            | inr other ↦ elim other [ inl less ↦ absurd (upto less) | inr more ↦ absurd (omega arith) ]
+          ]
 
       less_than : (i j : ℕ) → i < j → nat_cmp i j ≡ Less
       less_than i j h = grind (arith, common_steps)
@@ -130,9 +137,12 @@ pub second-rises : (codec : Meaning) (place : ℕ → Option Place) (window : Co
     → (b ≡ None) ⊎ ((starts_at passed after (n + 1) ≡ true)
     × AnswerFound codec place (contents window.packets) (fact_at passed after) passed (n + 1) b)
 second-rises codec place window newest n passed before after b second = elim second [
-  | inl new ↦ inr ((and_parts (nat_lt n newest) (starts_at passed after (n + 1))
-      (and_parts (nat_lt n newest && starts_at passed after (n + 1))
-      (not (nat_lt n newest && starts_at passed before (n + 1))) new.0).0).1, new.1)
+  | inl new ↦ inr (
+    (and_parts (nat_lt n newest) (starts_at passed after (n + 1))
+        (and_parts (nat_lt n newest && starts_at passed after (n + 1))
+        (not (nat_lt n newest && starts_at passed before (n + 1))) new.0).0).1,
+    new.1,
+  )
   | inr old ↦ inl old.1
 ]
 
@@ -207,13 +217,15 @@ module _ (codec : Meaning) (window : Contents Held) (newest n : ℕ) (shape : Sh
         × (starts_at passed old.entries (n + 1) ≡ false)
     begins h =
         let p : ((nat_lt n newest && starts_at passed ring.entries (n + 1)) ≡ true)
-            × (not (nat_lt n newest && starts_at passed old.entries (n + 1)) ≡ true) =
-            and_parts (nat_lt n newest && starts_at passed ring.entries (n + 1))
-            (not (nat_lt n newest && starts_at passed old.entries (n + 1))) (sym newly_is ∙ h) in
+        × (not (nat_lt n newest && starts_at passed old.entries (n + 1)) ≡ true) =
+        and_parts (nat_lt n newest && starts_at passed ring.entries (n + 1))
+        (not (nat_lt n newest && starts_at passed old.entries (n + 1))) (sym newly_is ∙ h) in
         let q : (nat_lt n newest ≡ true) × (starts_at passed ring.entries (n + 1) ≡ true) =
-            and_parts (nat_lt n newest) (starts_at passed ring.entries (n + 1)) p.0 in
-        (q.1, sym (ap (λ c. c && starts_at passed old.entries (n + 1)) q.0)
-        ∙ not-true (nat_lt n newest && starts_at passed old.entries (n + 1)) p.1)
+        and_parts (nat_lt n newest) (starts_at passed ring.entries (n + 1)) p.0 in (
+          q.1,
+          sym (ap (λ c. c && starts_at passed old.entries (n + 1)) q.0)
+              ∙ not-true (nat_lt n newest && starts_at passed old.entries (n + 1)) p.1,
+        )
 
     else-same : (m : ℕ) → in_window newest m ≡ true → m ≢ n → m ≢ n + 1 →
         fact_at passed ring.entries m ≡ fact_at passed old.entries m
@@ -262,5 +274,8 @@ module _ (codec : Meaning) (window : Contents Held) (newest n : ℕ) (shape : Sh
     }
 
     pub call-second : SecondFound codec place window newest n passed old.entries ring.entries b
-    call-second = elim next [ inl new ↦ inl (sym newly_is ∙ new.0, new.1.found) | inr gone ↦ inr
-        (sym newly_is ∙ gone.0, gone.1) ]
+    call-second = elim next [
+      | inl new ↦ inl (sym newly_is ∙ new.0, new.1.found)
+      | inr gone ↦ inr
+          (sym newly_is ∙ gone.0, gone.1)
+    ]

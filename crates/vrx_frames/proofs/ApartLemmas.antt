@@ -92,7 +92,7 @@ module _ (codec : Meaning) (place : ℕ → Option Place) (starts : Piece → Bo
   same_first : (a b : Run) (n : ℕ) → IsIt a → IsIt b → LiesIn n a → LiesIn n b → a.first ≡ b.first
   same_first a b n r s x y =
       let a0 : a.first ≤ n = x.0 in let a1 : n ≤ a.last = x.1 in let b0 : b.first ≤ n = y.0 in let b1 : n ≤ b.last =
-          y.1 in
+      y.1 in
       elim (cases_order a.first b.first) [
         | inl same ↦ same
         | inr other ↦ elim other [
@@ -104,7 +104,7 @@ module _ (codec : Meaning) (place : ℕ → Option Place) (starts : Piece → Bo
   same_last : (a b : Run) (n : ℕ) → IsIt a → IsIt b → LiesIn n a → LiesIn n b → a.last ≡ b.last
   same_last a b n r s x y =
       let a0 : a.first ≤ n = x.0 in let a1 : n ≤ a.last = x.1 in let b0 : b.first ≤ n = y.0 in let b1 : n ≤ b.last =
-          y.1 in
+      y.1 in
       elim (cases_order a.last b.last) [
         | inl same ↦ same
         | inr other ↦ elim other [
@@ -127,8 +127,8 @@ module _ (codec : Meaning) (place : ℕ → Option Place) (starts : Piece → Bo
       let size : a.first + length r.pieces ≡ a.last + 1 = r.to_last in
       let size' : b.first + length s.pieces ≡ b.last + 1 = s.to_last in
       let pieces : r.pieces ≡ s.pieces =
-          one_list codec packets b.first r.pieces s.pieces
-          (subst (λ k. ArePieces codec packets k r.pieces) first r.from_first) s.from_first (omega arith) in
+      one_list codec packets b.first r.pieces s.pieces
+      (subst (λ k. ArePieces codec packets k r.pieces) first r.from_first) s.from_first (omega arith) in
       same_run a b first last
       (sym p.holds.0 ∙ ap (λ (z : Piece). z.packet.ts) same ∙ q.holds.0)
       (same_test a.key b.key (λ h.
@@ -153,14 +153,14 @@ below-from : (x : ℕ) (es : Packets) → below_all nat_cmp x es ≡ true → Al
 below-from x [] h = tt
 below-from x (e ∷ es) h =
     let p : (is_lt (nat_cmp x e.0) ≡ true) × (below_all nat_cmp x es ≡ true) =
-        and_parts (is_lt (nat_cmp x e.0)) (below_all nat_cmp x es) h in
+    and_parts (is_lt (nat_cmp x e.0)) (below_all nat_cmp x es) h in
     (less_key x e.0 p.0, below-from x es p.1)
 
 rises-from : (es : Packets) → is_sorted nat_cmp es ≡ true → Rises (map (λ e. e.0) es)
 rises-from [] h = tt
 rises-from (e ∷ es) h =
     let p : (below_all nat_cmp e.0 es ≡ true) × (is_sorted nat_cmp es ≡ true) =
-        and_parts (below_all nat_cmp e.0 es) (is_sorted nat_cmp es) h in
+    and_parts (below_all nat_cmp e.0 es) (is_sorted nat_cmp es) h in
     (below-from e.0 es p.0, rises-from es p.1)
 
 module _ (codec : Meaning) (place : ℕ → Option Place) (starts : Piece → Bool) (packets : Packets) where
@@ -185,8 +185,8 @@ module _ (codec : Meaning) (place : ℕ → Option Place) (starts : Piece → Bo
       let some : run.first ≤ run.last = r.not_empty in
       let some' : other.first ≤ other.last = s.not_empty in
       let same : run ≡ other =
-          runs-apart codec place starts packets run other n r s (omega arith, omega arith)
-          (omega arith, omega arith) in
+      runs-apart codec place starts packets run other n r s (omega arith, omega arith)
+      (omega arith, omega arith) in
       let last : run.last ≡ other.last = ap (λ (x : Run). x.last) same in
       absurd (omega arith)
 
@@ -206,8 +206,12 @@ module _ (codec : Meaning) (place : ℕ → Option Place) (starts : Piece → Bo
         (λ (o : Option Run). (cons_option o (filter_map (to n) ls) ≡ [])
         ⊎ ((run : Run) × (cons_option o (filter_map (to n) ls) ≡ run ∷ []) × (run.first ≡ n))) (sym none) rest
     either (Some run) is rest =
-        inr (run, ap (λ o. cons_option o (filter_map (to n) ls)) is
-        ∙ ap (λ (rs : List Run). run ∷ rs) (none-later n l run ls is rises.0), (ends-at n l run is).0)
+        inr (
+          run,
+          ap (λ o. cons_option o (filter_map (to n) ls)) is
+              ∙ ap (λ (rs : List Run). run ∷ rs) (none-later n l run ls is rises.0),
+          (ends-at n l run is).0,
+        )
 
   abbrev by_first : Run → Run → Ordering
   by_first a b = nat_cmp a.first b.first

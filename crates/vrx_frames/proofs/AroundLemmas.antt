@@ -53,20 +53,26 @@ module _ (codec : Meaning) (place : ℕ → Option Place) (starts : Piece → Bo
   whole-of run is =
       let some : run.first ≤ run.last = is.not_empty in
       let f : Held codec known (Says codec place starts known run) run.first =
-          piece-in codec place starts known run run.first is (omega arith, some) in
+      piece-in codec place starts known run run.first is (omega arith, some) in
       let l : Held codec known (Says codec place starts known run) run.last =
-          piece-in codec place starts known run run.last is (some, omega arith) in
+      piece-in codec place starts known run run.last is (some, omega arith) in
       record {
         linked = record { upto = some; each = sits };
         start = record {
-            fact = fact_of_piece starts f.piece; told = to run.first f.piece f.is; starts = f.holds.1.1 f.is.number };
+          fact = fact_of_piece starts f.piece;
+          told = to run.first f.piece f.is;
+          starts = f.holds.1.1 f.is.number;
+        };
         end = record {
-            fact = fact_of_piece starts l.piece; told = to run.last l.piece l.is; marker = l.holds.2.1 l.is.number };
+          fact = fact_of_piece starts l.piece;
+          told = to run.last l.piece l.is;
+          marker = l.holds.2.1 l.is.number;
+        };
       } where
         sits : (n : ℕ) → run.first ≤ n → n ≤ run.last → Sits facts run.ts run.first run.last n
         sits n above upto =
             let p : Held codec known (Says codec place starts known run) n =
-                piece-in codec place starts known run n is (above, upto) in
+            piece-in codec place starts known run n is (above, upto) in
             let number : p.piece.number ≡ n = p.is.number in
             record {
               fact = fact_of_piece starts p.piece;
@@ -177,11 +183,11 @@ module _ (codec : Meaning) (place : ℕ → Option Place) (starts : Piece → Bo
   same-pieces span run n whole above upto is lies pieces =
       let w : AreWhole facts run.ts run.first run.last = whole-of run is in
       let first : run.first ≡ span.first =
-          whole-first facts run.ts run.first run.last span.ts span.first span.last n w whole lies.0 lies.1 above
-          upto in
+      whole-first facts run.ts run.first run.last span.ts span.first span.last n w whole lies.0 lies.1 above
+      upto in
       let last : run.last ≡ span.last =
-          whole-last facts run.ts run.first run.last span.ts span.first span.last n w whole lies.0 lies.1 above
-          upto in
+      whole-last facts run.ts run.first run.last span.ts span.first span.last n w whole lies.0 lies.1 above
+      upto in
       let size : run.first + length is.pieces ≡ run.last + 1 = is.to_last in
       let size' : length pieces.pieces ≡ span.last - span.first + 1 = pieces.size in
       one_list codec known span.first is.pieces pieces.pieces
@@ -193,66 +199,85 @@ module _ (codec : Meaning) (place : ℕ → Option Place) (starts : Piece → Bo
       RunAround codec place starts known passed n (span_summary codec place packets span)
   span_summary-around span n whole above upto beyond =
       subst (RunAround codec place starts known passed n) (sym by_pieces) (either (octets_of codec parts) refl) where
-    some : span.first ≤ span.last
-    some = whole.linked.upto
+        some : span.first ≤ span.last
+        some = whole.linked.upto
 
-    pieces : Pieces span span.first (span.last - span.first + 1)
-    pieces = pieces-of span whole span.first (span.last - span.first + 1) (omega arith) (omega arith)
+        pieces : Pieces span span.first (span.last - span.first + 1)
+        pieces = pieces-of span whole span.first (span.last - span.first + 1) (omega arith) (omega arith)
 
-    parts : List Part
-    parts = map (λ p. p.part) pieces.pieces
+        parts : List Part
+        parts = map (λ p. p.part) pieces.pieces
 
-    by_pieces : span_summary codec place packets span ≡ summary_with codec place span parts
-    by_pieces = ap (λ k. summary_with codec place span (parts_from codec packets span.first k)) (sym pieces.size)
-        ∙ ap (summary_with codec place span) (parts-are span.first pieces.pieces pieces.are)
+        by_pieces : span_summary codec place packets span ≡ summary_with codec place span parts
+        by_pieces = ap (λ k. summary_with codec place span (parts_from codec packets span.first k)) (sym pieces.size)
+            ∙ ap (summary_with codec place span) (parts-are span.first pieces.pieces pieces.are)
 
-    either : (o : Option ℕ) → octets_of codec parts ≡ o →
-        RunAround codec place starts known passed n
-        (option_map (λ octets. record {
-        first = span.first; last = span.last; ts = span.ts; key = says_key parts; layers = place span.first; octets =
-        octets }) o)
-    either None none = λ run is it_stands lies.
-        let same : is.pieces ≡ pieces.pieces = same-pieces span run n whole above upto is lies pieces in
-        none-some (length run.bytes)
-        (sym none ∙ ap (λ ps. octets_of codec (map (λ p. p.part) ps)) (sym same)
-        ∙ ap (λ r. option_map length (result_ok r)) is.joins)
-    either (Some octets) is =
-        let joined : (bytes : List ℕ) × (codec.join parts ≡ Ok bytes) × (length bytes ≡ octets) =
+        either : (o : Option ℕ) → octets_of codec parts ≡ o →
+            RunAround codec place starts known passed n
+            (option_map (λ octets. record {
+              first = span.first;
+              last = span.last;
+              ts = span.ts;
+              key = says_key parts;
+              layers = place span.first;
+              octets = octets;
+            }) o)
+        either None none = λ run is it_stands lies.
+            let same : is.pieces ≡ pieces.pieces = same-pieces span run n whole above upto is lies pieces in
+            none-some (length run.bytes)
+            (sym none ∙ ap (λ ps. octets_of codec (map (λ p. p.part) ps)) (sym same)
+            ∙ ap (λ r. option_map length (result_ok r)) is.joins)
+        either (Some octets) is =
+            let joined : (bytes : List ℕ) × (codec.join parts ≡ Ok bytes) × (length bytes ≡ octets) =
             octets-of (codec.join parts) octets is in
-        let size : length pieces.pieces ≡ span.last - span.first + 1 = pieces.size in
-        let run : Run = record {
-            first = span.first; last = span.last; ts = span.ts; key = says_key parts; layers =
-            place span.first; bytes = joined.0 } in (
-          run,
-          record {
-            pieces = pieces.pieces;
-            from_first = pieces.are;
-            to_last = omega arith;
-            not_empty = some;
-            ts = All-from_recursion (λ p. p.packet.ts ≡ span.ts) pieces.pieces pieces.ts;
-            start = All-from_recursion (λ p. (starts p ≡ true) ↔ (p.number ≡ span.first)) pieces.pieces pieces.start;
-            marker = All-from_recursion
-                (λ p. (p.packet.marker ≡ true) ↔ (p.number ≡ span.last)) pieces.pieces pieces.marker;
-            key = (λ k. list_any-from (λ p. p.part.key) pieces.pieces (sym (keys-of pieces.pieces) ∙ k), λ k.
-                keys-of pieces.pieces ∙ list_any-to (λ p. p.part.key) pieces.pieces k.0 k.1 k.2);
-            layers = refl;
-            joins = joined.1;
-          },
-          stands-is run ∙ not_from_false (is_passed passed span.first) beyond,
-          (above, upto),
-          ap (λ k. record {
-          first = span.first; last = span.last; ts = span.ts; key = says_key parts; layers =
-          place span.first; octets = k }) joined.2,
-        )
+            let size : length pieces.pieces ≡ span.last - span.first + 1 = pieces.size in
+            let run : Run = record {
+              first = span.first;
+              last = span.last;
+              ts = span.ts;
+              key = says_key parts;
+              layers = place span.first;
+              bytes = joined.0;
+            } in (
+              run,
+              record {
+                pieces = pieces.pieces;
+                from_first = pieces.are;
+                to_last = omega arith;
+                not_empty = some;
+                ts = All-from_recursion (λ p. p.packet.ts ≡ span.ts) pieces.pieces pieces.ts;
+                start =
+                    All-from_recursion (λ p. (starts p ≡ true) ↔ (p.number ≡ span.first)) pieces.pieces pieces.start;
+                marker = All-from_recursion
+                    (λ p. (p.packet.marker ≡ true) ↔ (p.number ≡ span.last)) pieces.pieces pieces.marker;
+                key = (
+                  λ k. list_any-from (λ p. p.part.key) pieces.pieces (sym (keys-of pieces.pieces) ∙ k),
+                  λ k.
+                      keys-of pieces.pieces ∙ list_any-to (λ p. p.part.key) pieces.pieces k.0 k.1 k.2,
+                );
+                layers = refl;
+                joins = joined.1;
+              },
+              stands-is run ∙ not_from_false (is_passed passed span.first) beyond,
+              (above, upto),
+              ap (λ k. record {
+                first = span.first;
+                last = span.last;
+                ts = span.ts;
+                key = says_key parts;
+                layers = place span.first;
+                octets = k;
+              }) joined.2,
+            )
 
   -- the answer is the run that the number lies in
   pub around : (n : ℕ) (answer : Option RunSummary) → AnswerFound codec place packets facts passed n answer →
       RunAround codec place starts known passed n answer
   around n answer found =
       subst (RunAround codec place starts known passed n) (sym found.is) (either found.span found.found) where
-    either : (o : Option Span) → SpanFound facts passed n o →
-        RunAround codec place starts known passed n (option_and_then (span_summary codec place packets) o)
-    either None none = λ run is it_stands lies.
-        true≢false (sym it_stands ∙ stands-is run
-        ∙ ap not (none run.ts run.first run.last (whole-of run is) lies.0 lies.1))
-    either (Some span) f = span_summary-around span n f.0 f.1 f.2 f.3
+        either : (o : Option Span) → SpanFound facts passed n o →
+            RunAround codec place starts known passed n (option_and_then (span_summary codec place packets) o)
+        either None none = λ run is it_stands lies.
+            true≢false (sym it_stands ∙ stands-is run
+            ∙ ap not (none run.ts run.first run.last (whole-of run is) lies.0 lies.1))
+        either (Some span) f = span_summary-around span n f.0 f.1 f.2 f.3

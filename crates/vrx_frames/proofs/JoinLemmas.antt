@@ -150,7 +150,7 @@ pub key-here : (codec : Meaning) (packets : Packets) (n count more : ℕ) →
     says_key (parts_from codec packets n count) ≡ true
 key-here codec packets n count more is same =
     let p : (part : Part) × (part_at codec packets n ≡ Some part) × (part.key ≡ true) =
-        key-part (part_at codec packets n) true is in
+    key-part (part_at codec packets n) true is in
     ap says_key (parts-next codec packets n count more p.0 p.1 same)
     ∙ ap (λ b. b || says_key (parts_from codec packets (n + 1) more)) p.2
 
@@ -160,6 +160,6 @@ pub key-next : (codec : Meaning) (packets : Packets) (n count more : ℕ) →
     says_key (parts_from codec packets n count) ≡ says_key (parts_from codec packets (n + 1) more)
 key-next codec packets n count more is same =
     let p : (part : Part) × (part_at codec packets n ≡ Some part) × (part.key ≡ false) =
-        key-part (part_at codec packets n) false is in
+    key-part (part_at codec packets n) false is in
     ap says_key (parts-next codec packets n count more p.0 p.1 same)
     ∙ ap (λ b. b || says_key (parts_from codec packets (n + 1) more)) p.2

@@ -136,7 +136,7 @@ module _ (newest n : ℕ) (shape : Shape) (ring : Numbered Arrival) (kept : IsKe
       let there : (t : Arrival) × (now (m - 1) ≡ Some t) = ends-some now (m - 1) behind in
       let old : (in_window newest m ≡ true) × (at m ring.entries ≡ Some told) = was m told other is in
       let old' : (in_window newest (m - 1) ≡ true) × (at (m - 1) ring.entries ≡ Some there.0) =
-          was (m - 1) there.0 before there.1 in
+      was (m - 1) there.0 before there.1 in
       kept.settled m told old.1
       (ap (λ o. option_map_or (λ (t : Arrival). ends t.shape) o false) (old'.1 ∙ sym there.1) ∙ behind)
 
@@ -184,7 +184,9 @@ module _ (newest n : ℕ) (shape : Shape) (ring : Numbered Arrival) (kept : IsKe
   both-steps m = elim (under-cases (now m)) [
     | inl none ↦ ap (λ o. option_map
         (λ (t : Arrival). record {
-        shape = t.shape; began = t.began || ((m == n + 1) && ends_in (with_memory n now) (n + 1 - 1)) })
+          shape = t.shape;
+          began = t.began || ((m == n + 1) && ends_in (with_memory n now) (n + 1 - 1));
+        })
         (option_map (λ (t : Arrival).
         record { shape = t.shape; began = t.began || ((m == n) && ends_in now (n - 1)) }) o)) none
         ∙ sym (ap (option_map (remember_if (ends_in now (m - 1)))) none)

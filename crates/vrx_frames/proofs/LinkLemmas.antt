@@ -13,14 +13,16 @@ use Rattle.vrx_frames.specs.declared.arrival.Arrival.{Arrival}
 -- a number is the last, or before it
 pub last_or_before : (n last : ℕ) → n ≤ last + 1 → (n ≤ last) ⊎ (n ≡ last + 1)
 last_or_before n last upto =
-    elim (cases_order n (last + 1)) [ inl same ↦ inr same | inr
-    other ↦ elim other [ inl less ↦ inl (omega arith) | inr more ↦ absurd (omega arith) ] ]
+    elim (cases_order n (last + 1)) [
+      | inl same ↦ inr same
+      | inr other ↦ elim other [ inl less ↦ inl (omega arith) | inr more ↦ absurd (omega arith) ]
+    ]
 
 -- what goes on a frame
 follows-parts : (a b : Fact) → follows a b ≡ true → (a.marker ≡ false) × (a.ts ≡ b.ts) × (b.starts ≡ false)
 follows-parts a b h =
     let x : ((not a.marker && (a.ts == b.ts)) ≡ true) × (not b.starts ≡ true) =
-        and_parts (not a.marker && (a.ts == b.ts)) (not b.starts) h in
+    and_parts (not a.marker && (a.ts == b.ts)) (not b.starts) h in
     let y : (not a.marker ≡ true) × ((a.ts == b.ts) ≡ true) = and_parts (not a.marker) (a.ts == b.ts) x.0 in
     (not-true a.marker y.0, eqb-true a.ts b.ts y.1, not-true b.starts x.1)
 
@@ -109,19 +111,30 @@ module _ (facts : ℕ → Option Fact) where
         each = λ m from upto. elim (cases_order m n) [
           | inl same ↦ let s : Sits facts ts first n m =
               a.each m from (omega arith) in let t : Sits facts ts n last m = b.each m (omega arith) upto in record {
-            fact = s.fact;
-            told = s.told;
-            ts_is = s.ts_is;
-            later = s.later;
-            earlier = λ less. ap (λ (x : Fact). x.marker) (one_fact m s.fact t.fact s.told t.told) ∙ t.earlier less;
-          }
+                fact = s.fact;
+                told = s.told;
+                ts_is = s.ts_is;
+                later = s.later;
+                earlier =
+                    λ less. ap (λ (x : Fact). x.marker) (one_fact m s.fact t.fact s.told t.told) ∙ t.earlier less;
+              }
           | inr other ↦ elim other [
             | inl less ↦ let s : Sits facts ts first n m = a.each m from (omega arith) in
                 record {
-                fact = s.fact; told = s.told; ts_is = s.ts_is; later = s.later; earlier = λ _. s.earlier less }
+                  fact = s.fact;
+                  told = s.told;
+                  ts_is = s.ts_is;
+                  later = s.later;
+                  earlier = λ _. s.earlier less;
+                }
             | inr more ↦ let t : Sits facts ts n last m = b.each m (omega arith) upto in
                 record {
-                fact = t.fact; told = t.told; ts_is = t.ts_is; later = λ _. t.later more; earlier = t.earlier }
+                  fact = t.fact;
+                  told = t.told;
+                  ts_is = t.ts_is;
+                  later = λ _. t.later more;
+                  earlier = t.earlier;
+                }
           ]
         ];
       }
@@ -131,15 +144,15 @@ module _ (facts : ℕ → Option Fact) where
       ((b : Fact) → facts (last + 1) ≡ Some b → follows a b ≡ true → ⊥) → IsReach facts ts n last
   reach-stops ts n last a linked told stops =
       record { linked = linked; most = λ other m more. within other m more (cases_order m last) } where
-    within : (other m : ℕ) → AreLinked facts other n m → (m ≡ last) ⊎ ((m < last) ⊎ (last < m)) → m ≤ last
-    within other m more (inl same) = omega arith
-    within other m more (inr (inl less)) = omega arith
-    within other m more (inr (inr beyond)) =
-        let some : n ≤ last = linked.upto in
-        let s : Sits facts other n m (last + 1) = more.each (last + 1) (omega arith) (omega arith) in
-        absurd (stops s.fact s.told
-        (follows-from a s.fact (marker-at other n m last a more some beyond told)
-        (ts-at other n m last a more some (omega arith) told ∙ sym s.ts_is) (s.later (omega arith))))
+        within : (other m : ℕ) → AreLinked facts other n m → (m ≡ last) ⊎ ((m < last) ⊎ (last < m)) → m ≤ last
+        within other m more (inl same) = omega arith
+        within other m more (inr (inl less)) = omega arith
+        within other m more (inr (inr beyond)) =
+            let some : n ≤ last = linked.upto in
+            let s : Sits facts other n m (last + 1) = more.each (last + 1) (omega arith) (omega arith) in
+            absurd (stops s.fact s.told
+            (follows-from a s.fact (marker-at other n m last a more some beyond told)
+            (ts-at other n m last a more some (omega arith) told ∙ sym s.ts_is) (s.later (omega arith))))
 
   -- no whole frame has a number that isn't told media
   pub blocked-none : (n : ℕ) → facts n ≡ None → NoneHas facts n
@@ -185,6 +198,6 @@ pub upto-newest : (passed : Option ℕ) (ring : Numbered Arrival) (n other : ℕ
     fact_at passed ring.entries n ≡ Some fact → n ≤ unwrap_or ring.newest other
 upto-newest passed ring n other fact sound told =
     either ring.newest (sound.inside n (fact-available passed ring.entries n fact told)) where
-  either : (o : Option ℕ) → is_inside o n ≡ true → n ≤ unwrap_or o other
-  either None inside = absurd (true≢false (sym inside))
-  either (Some newest) inside = leb-true n newest (and_parts _ _ inside).1
+      either : (o : Option ℕ) → is_inside o n ≡ true → n ≤ unwrap_or o other
+      either None inside = absurd (true≢false (sym inside))
+      either (Some newest) inside = leb-true n newest (and_parts _ _ inside).1

@@ -87,7 +87,7 @@ module _ {X : Type 0} where
   below-none x [] h = refl
   below-none x (e ∷ es) h =
       let p : (is_lt (nat_cmp x e.0) ≡ true) × (below_all nat_cmp x es ≡ true) =
-          and_parts (is_lt (nat_cmp x e.0)) (below_all nat_cmp x es) h in
+      and_parts (is_lt (nat_cmp x e.0)) (below_all nat_cmp x es) h in
       let less : x < e.0 = less_key x e.0 p.0 in
       at_later x e es (λ same. omega arith) ∙ below-none x es p.1
 
@@ -110,11 +110,11 @@ module _ {X : Type 0} where
   filter-keys test p [] sorted so = refl
   filter-keys test p (e ∷ es) sorted so =
       let s : (below_all nat_cmp e.0 es ≡ true) × (is_sorted nat_cmp es ≡ true) =
-          and_parts (below_all nat_cmp e.0 es) (is_sorted nat_cmp es) sorted in
+      and_parts (below_all nat_cmp e.0 es) (is_sorted nat_cmp es) sorted in
       let rest : map (λ d. d.0) (filter (λ d. test d.1) es) ≡ filter p (map (λ d. d.0) es) =
-          filter-keys test p es s.1
-          (λ n x is. so n x (at_later n e es
-          (λ same. none-some x (sym (below-none e.0 es s.0) ∙ ap (λ k. at k es) (sym same) ∙ is)) ∙ is)) in
+      filter-keys test p es s.1
+      (λ n x is. so n x (at_later n e es
+      (λ same. none-some x (sym (below-none e.0 es s.0) ∙ ap (λ k. at k es) (sym same) ∙ is)) ∙ is)) in
       picked (test e.1) (p e.0) (so e.0 e.1 (at_first e es)) rest where
         picked : (a b : Bool) → a ≡ b → map (λ d. d.0) (filter (λ d. test d.1) es) ≡ filter p (map (λ d. d.0) es) →
             map (λ d. d.0) (cond a (e ∷ filter (λ d. test d.1) es) (filter (λ d. test d.1) es)) ≡ cond b
@@ -130,7 +130,7 @@ module _ {X : Type 0} where
   among-keys test n [] sorted = refl
   among-keys test n (e ∷ es) sorted =
       let s : (below_all nat_cmp e.0 es ≡ true) × (is_sorted nat_cmp es ≡ true) =
-          and_parts (below_all nat_cmp e.0 es) (is_sorted nat_cmp es) sorted in
+      and_parts (below_all nat_cmp e.0 es) (is_sorted nat_cmp es) sorted in
       either (cases_eq n e.0) (among-keys test n es s.1) s.0 where
         others : List ℕ
         others = map (λ d. d.0) (filter (λ d. test d.1) es)

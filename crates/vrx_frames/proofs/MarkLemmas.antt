@@ -30,7 +30,12 @@ module _ (facts : ℕ → Option Fact) where
     upto = from;
     each = λ m above below. let s : Sits facts ts first last m = linked.each m above (omega arith) in
         record {
-        fact = s.fact; told = s.told; ts_is = s.ts_is; later = s.later; earlier = λ less. s.earlier (omega arith) };
+          fact = s.fact;
+          told = s.told;
+          ts_is = s.ts_is;
+          later = s.later;
+          earlier = λ less. s.earlier (omega arith);
+        };
   }
 
   -- and the last part
@@ -40,7 +45,12 @@ module _ (facts : ℕ → Option Fact) where
     upto = upto;
     each = λ m above below. let s : Sits facts ts first last m = linked.each m (omega arith) below in
         record {
-        fact = s.fact; told = s.told; ts_is = s.ts_is; later = λ less. s.later (omega arith); earlier = s.earlier };
+          fact = s.fact;
+          told = s.told;
+          ts_is = s.ts_is;
+          later = λ less. s.later (omega arith);
+          earlier = s.earlier;
+        };
   }
 
   -- two stretches with a common number have one timestamp
@@ -90,7 +100,12 @@ link-same F G ts first last same linked = record {
   upto = linked.upto;
   each = λ m above below. let s : Sits F ts first last m = linked.each m above below in
       record {
-      fact = s.fact; told = same m above below ∙ s.told; ts_is = s.ts_is; later = s.later; earlier = s.earlier };
+        fact = s.fact;
+        told = same m above below ∙ s.told;
+        ts_is = s.ts_is;
+        later = s.later;
+        earlier = s.earlier;
+      };
 }
 
 pub chain-same : (F G : ℕ → Option Fact) (first n : ℕ) → ((m : ℕ) → first ≤ m → m ≤ n → G m ≡ F m) →
@@ -101,17 +116,21 @@ chain-same F G first n same chain =
       ts = chain.ts;
       linked = link-same F G chain.ts first n same chain.linked;
       start = record {
-          fact = chain.start.fact; told = same first (omega arith) upto ∙ chain.start.told; starts =
-          chain.start.starts };
+        fact = chain.start.fact;
+        told = same first (omega arith) upto ∙ chain.start.told;
+        starts = chain.start.starts;
+      };
     }
 
 -- marks stay right where chains stay
 pub marks-stay : (F G : ℕ → Option Fact) (ok other : ℕ → Bool) (M : ℕ → Option ℕ) → Marks F ok M →
     ((first : ℕ) → other first ≡ true → ok first ≡ true)
     → ((n first : ℕ) → other first ≡ true → IsChain F first n ↔ IsChain G first n) → Marks G other M
-marks-stay F G ok other M marked less same n first counted =
-    (λ h. (same n first counted).0 ((marked n first (less first counted)).0 h), λ chain.
-    (marked n first (less first counted)).1 ((same n first counted).1 chain))
+marks-stay F G ok other M marked less same n first counted = (
+  λ h. (same n first counted).0 ((marked n first (less first counted)).0 h),
+  λ chain.
+      (marked n first (less first counted)).1 ((same n first counted).1 chain),
+)
 
 -- a mark that was spread from a number that was in no chain
 module _ (F G : ℕ → Option Fact) (ok other : ℕ → Bool) (x : ℕ) (before after : List (ℕ × ℕ))
@@ -124,9 +143,11 @@ module _ (F G : ℕ → Option Fact) (ok other : ℕ → Bool) (x : ℕ) (before
   between-or first n = elim (cases_order first (x + 1)) [
     | inl e ↦ inr (λ a b. omega arith)
     | inr e ↦ elim e [
-      | inl a ↦ elim (cases_order x (n + 1)) [ inl e' ↦ inr
-          (λ c d. omega arith) | inr
-          e' ↦ elim e' [ inl b ↦ inl (omega arith, omega arith) | inr b ↦ inr (λ c d. omega arith) ] ]
+      | inl a ↦ elim (cases_order x (n + 1)) [
+        | inl e' ↦ inr
+            (λ c d. omega arith)
+        | inr e' ↦ elim e' [ inl b ↦ inl (omega arith, omega arith) | inr b ↦ inr (λ c d. omega arith) ]
+      ]
       | inr a ↦ inr (λ c d. omega arith)
     ]
   ]
@@ -160,8 +181,11 @@ module _ (F G : ℕ → Option Fact) (ok other : ℕ → Bool) (x : ℕ) (before
       before-x : (ts : ℕ) → AreLinked G ts x n → first ≤ x
       before-x ts linked = elim (cases_order first x) [
         | inl e ↦ omega arith
-        | inr e ↦ elim e [ inl less' ↦ omega arith | inr more ↦ absurd
-            (no-start G ts x first n linked more c.linked.upto c.start) ]
+        | inr e ↦ elim e [
+          | inl less' ↦ omega arith
+          | inr more ↦ absurd
+              (no-start G ts x first n linked more c.linked.upto c.start)
+        ]
       ]
 
   pub was-left : ((first : ℕ) → other first ≡ true → IsChain G first x → ⊥) → after ≡ before →
@@ -233,8 +257,11 @@ mark-next from count first newest before marks entries numbered is inside upto e
       (in-between newest from (from + count) inside (omega arith) upto) entries_are
 
   less : (m : ℕ) → m < from + (count + 1) → (m ≡ from + count → ⊥) → m < from + count
-  less m below other = elim (cases_order m (from + count)) [ inl e ↦ absurd
-      (other e) | inr e ↦ elim e [ inl a ↦ a | inr a ↦ absurd (omega arith) ] ]
+  less m below other = elim (cases_order m (from + count)) [
+    | inl e ↦ absurd
+        (other e)
+    | inr e ↦ elim e [ inl a ↦ a | inr a ↦ absurd (omega arith) ]
+  ]
 
 -- nothing is marked yet
 pub mark-none : (from first : ℕ) (marks : List (ℕ × ℕ)) → MarkedUpTo from 0 first marks marks
@@ -273,41 +300,55 @@ module _ (facts : ℕ → Option Fact) where
       ((m : ℕ) → at m after ≡ mark_with n last first before m) → IsSpread facts n first before after
   spread-all ts n last first before after reached all =
       record { each = λ m. one m (nat_le n m && nat_le m last) refl } where
-    one : (m : ℕ) (b : Bool) → (nat_le n m && nat_le m last) ≡ b →
-        ((other : ℕ) × AreLinked facts other n m × (at m after ≡ Some first))
-        ⊎ (((other : ℕ) → AreLinked facts other n m → ⊥) × (at m after ≡ at m before))
-    one m true h =
-        let p : (nat_le n m ≡ true) × (nat_le m last ≡ true) = and_parts (nat_le n m) (nat_le m last) h in
-        inl (ts, link-take facts ts n m last reached.linked (leb-true n m p.0) (leb-true m last p.1), all m
-        ∙ ap (λ c. cond c (Some first) (at m before)) h)
-    one m false h = inr (
-      λ other linked. true≢false
-      (sym (and_from (nat_le n m) (nat_le m last) (le-leb n m linked.upto)
-      (le-leb m last (reached.most other m linked))) ∙ h),
-      all m ∙ ap (λ c. cond c (Some first) (at m before)) h,
-    )
+        one : (m : ℕ) (b : Bool) → (nat_le n m && nat_le m last) ≡ b →
+            ((other : ℕ) × AreLinked facts other n m × (at m after ≡ Some first))
+            ⊎ (((other : ℕ) → AreLinked facts other n m → ⊥) × (at m after ≡ at m before))
+        one m true h =
+            let p : (nat_le n m ≡ true) × (nat_le m last ≡ true) = and_parts (nat_le n m) (nat_le m last) h in
+            inl (
+              ts,
+              link-take facts ts n m last reached.linked (leb-true n m p.0) (leb-true m last p.1),
+              all m
+                  ∙ ap (λ c. cond c (Some first) (at m before)) h,
+            )
+        one m false h = inr (
+          λ other linked. true≢false
+              (sym (and_from (nat_le n m) (nat_le m last) (le-leb n m linked.upto)
+              (le-leb m last (reached.most other m linked))) ∙ h),
+          all m ∙ ap (λ c. cond c (Some first) (at m before)) h,
+        )
 
   -- a start is a chain of its own
   pub chain-one : (n : ℕ) (here : Fact) → facts n ≡ Some here → here.starts ≡ true → IsChain facts n n
   chain-one n here told starts =
       record {
-      ts = here.ts; linked = link-one facts n here told; start =
-      record { fact = here; told = told; starts = starts } }
+        ts = here.ts;
+        linked = link-one facts n here told;
+        start = record { fact = here; told = told; starts = starts };
+      }
 
   -- the chain of a start
   pub start-found : (n first : ℕ) (here : Fact) → facts n ≡ Some here → here.starts ≡ true →
       (◌≡◌ {A = Option ℕ} (Some n) (Some first)) ↔ IsChain facts first n
-  start-found n first here told starts =
-      (λ e. subst (λ k. IsChain facts k n) (same_Some n first e) (chain-one n here told starts), λ c.
-      ap Some (one-chain facts n first n (chain-one n here told starts) c))
+  start-found n first here told starts = (
+    λ e. subst (λ k. IsChain facts k n) (same_Some n first e) (chain-one n here told starts),
+    λ c.
+        ap Some (one-chain facts n first n (chain-one n here told starts) c),
+  )
 
   -- the chain to a number that is no start comes over the number before it
   pub chain-before : (n first before : ℕ) (here : Fact) → before + 1 ≡ n → facts n ≡ Some here → here.starts ≡ false →
       IsChain facts first n → (first ≤ before) × ((a : Fact) × (facts before ≡ Some a) × (follows a here ≡ true))
-  chain-before n first before here step told none chain =
-      (low, (a.fact, a.told, follows-from a.fact here (a.earlier (omega arith))
-      (a.ts_is ∙ sym (ts-at facts chain.ts first n n here chain.linked chain.linked.upto (omega arith) told))
-      none)) where
+  chain-before n first before here step told none chain = (
+    low,
+    (
+      a.fact,
+      a.told,
+      follows-from a.fact here (a.earlier (omega arith))
+          (a.ts_is ∙ sym (ts-at facts chain.ts first n n here chain.linked chain.linked.upto (omega arith) told))
+          none,
+    ),
+  ) where
     low : first ≤ before
     low = elim (cases_order first n) [
       | inl e ↦ absurd (true≢false
@@ -327,17 +368,19 @@ module _ (facts : ℕ → Option Fact) where
     λ e. absurd (none-some first e),
     λ chain.
         let b : (first ≤ before) × ((a : Fact) × (facts before ≡ Some a) × (follows a here ≡ true)) =
-            chain-before n first before here step told none chain in absurd (stops b.1.0 b.1.1 b.1.2),
+        chain-before n first before here step told none chain in absurd (stops b.1.0 b.1.1 b.1.2),
   )
 
   -- a number that is linked to the one before it has its chain
   pub next-found : (n first before : ℕ) (a here : Fact) (o : Option ℕ) → before + 1 ≡ n → facts n ≡ Some here →
       here.starts ≡ false → facts before ≡ Some a → follows a here ≡ true →
       (o ≡ Some first) ↔ IsChain facts first before → (o ≡ Some first) ↔ IsChain facts first n
-  next-found n first before a here o step told none prior goes same =
-      (λ e. on (same.0 e), λ chain.
-      same.1 (chain-take facts first before n chain (chain-before n first before here step told none chain).0
-      (omega arith))) where
+  next-found n first before a here o step told none prior goes same = (
+    λ e. on (same.0 e),
+    λ chain.
+        same.1 (chain-take facts first before n chain (chain-before n first before here step told none chain).0
+        (omega arith)),
+  ) where
     on : IsChain facts first before → IsChain facts first n
     on chain = record {
       ts = chain.ts;

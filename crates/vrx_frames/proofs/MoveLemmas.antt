@@ -119,7 +119,7 @@ module _ (passed : Option ℕ) (newest n : ℕ) (old ring : Numbered Arrival) (b
     to h =
         let s : at m before.entries ≡ Some k = stood m k h in
         let inside : is_inside old.newest m ≡ true =
-            ap (λ o. is_inside o m) (sym marked.newest_is) ∙ marked.numbered.inside m (ap is_some s) in
+        ap (λ o. is_inside o m) (sym marked.newest_is) ∙ marked.numbered.inside m (ap is_some s) in
         (marked.marked m k (ok-before k m counted inside (marked.low m k s))).0 s
 
     from : IsChain F k m → at m moved.entries ≡ Some k
@@ -158,9 +158,11 @@ module _ (passed : Option ℕ) (newest n : ℕ) (old ring : Numbered Arrival) (b
     ]
 
     marks-old : newly ≡ false → Marks H ok (λ m. at m moved.entries)
-    marks-old old_one = marks-stay F H ok ok (λ m. at m moved.entries) marks-moved (λ k h. h) (λ m k counted.
-        (λ c. chain-same F H k m (λ j a b. H-all old_one j (chain-old k m counted c j a b)) c, λ c.
-        chain-same H F k m (λ j a b. sym (H-all old_one j (chain-new k m counted c j a b))) c))
+    marks-old old_one = marks-stay F H ok ok (λ m. at m moved.entries) marks-moved (λ k h. h) (λ m k counted. (
+      λ c. chain-same F H k m (λ j a b. H-all old_one j (chain-old k m counted c j a b)) c,
+      λ c.
+          chain-same H F k m (λ j a b. sym (H-all old_one j (chain-new k m counted c j a b))) c,
+    ))
 
     -- a chain to the number after, which begins newly, is of that number alone
     next-alone : newly ≡ true → (facts : ℕ → Option Fact) → facts (n + 1) ≡ G (n + 1) → (k : ℕ) →
@@ -192,8 +194,11 @@ module _ (passed : Option ℕ) (newest n : ℕ) (old ring : Numbered Arrival) (b
           spread = record {
             each = λ m. elim (w.1.spread.each m) [
               | inl on ↦ inl (on.0, link-same G H on.0 (n + 1) m (λ j a b. H-other j (up-other j a)) on.1, on.2)
-              | inr off ↦ inr (λ ts linked.
-                  off.0 ts (link-same H G ts (n + 1) m (λ j a b. sym (H-other j (up-other j a))) linked), off.1)
+              | inr off ↦ inr (
+                λ ts linked.
+                    off.0 ts (link-same H G ts (n + 1) m (λ j a b. sym (H-other j (up-other j a))) linked),
+                off.1,
+              )
             ];
           };
         },
@@ -244,9 +249,11 @@ module _ (passed : Option ℕ) (newest n : ℕ) (old ring : Numbered Arrival) (b
       apart k m j out a b e = out (omega arith) (omega arith)
 
       same : (m k : ℕ) → ok k ≡ true → (k ≤ n → n ≤ m → ⊥) → IsChain H k m ↔ IsChain G k m
-      same m k counted out =
-          (λ c. chain-same H G k m (λ j a b. sym (H-other j (apart k m j out a b))) c, λ c.
-          chain-same G H k m (λ j a b. H-other j (apart k m j out a b)) c)
+      same m k counted out = (
+        λ c. chain-same H G k m (λ j a b. sym (H-other j (apart k m j out a b))) c,
+        λ c.
+            chain-same G H k m (λ j a b. H-other j (apart k m j out a b)) c,
+      )
 
       none : (m k : ℕ) → ok k ≡ true → k ≤ n → n ≤ m → IsChain H k m → ⊥
       none m k counted a b c = chain-hasn't H k n m H-here c a b

@@ -86,10 +86,10 @@ module _ (earlier passed : Option ℕ) (front newest n : ℕ) (ring : Numbered A
       (same-bool _ _ (grows-fact ring.entries earlier passed m
       (λ h. absurd (true≢false (sym h ∙ later (m - 1) none))))
       (grows-fact ring.entries passed earlier m (λ h. absurd (true≢false (sym h ∙ none)))))) where
-    none : is_passed passed (m - 1) ≡ false
-    none = ap (λ o. is_passed o (m - 1)) passed_is
-        ∙ false_from_ne_true (nat_le (m - 1) front)
-        (λ h. let k : m - 1 ≤ front = leb-true (m - 1) front h in omega arith)
+        none : is_passed passed (m - 1) ≡ false
+        none = ap (λ o. is_passed o (m - 1)) passed_is
+            ∙ false_from_ne_true (nat_le (m - 1) front)
+            (λ h. let k : m - 1 ≤ front = leb-true (m - 1) front h in omega arith)
 
   -- starts before are starts
   grows : starts_at earlier ring.entries n ≡ true → starts_at passed ring.entries n ≡ true
@@ -114,8 +114,10 @@ module _ (earlier passed : Option ℕ) (front newest n : ℕ) (ring : Numbered A
     low = marked.low;
     marked = marks-stay F G (counts ring.newest earlier) (counts ring.newest passed)
         (λ m. at m marks.entries) marked.marked less
-        (λ k first counted. (chains F G facts-later here k first (beyond first counted),
-        chains G F (λ m x. sym (facts-later m x)) (sym here) k first (beyond first counted)));
+        (λ k first counted. (
+          chains F G facts-later here k first (beyond first counted),
+          chains G F (λ m x. sym (facts-later m x)) (sym here) k first (beyond first counted),
+        ));
   } where
     here : G n ≡ F n
     here = same-fact ring.entries passed earlier n e

@@ -20,7 +20,11 @@ start_said octet = if octet == 1 then Yes else (if octet == 2 then No else ByNei
 abbrev codec : Meaning
 codec = record {
   read = λ payload. Ok (record {
-      start = start_said (slice_index payload 0); key = false; layers = None; body = payload });
+    start = start_said (slice_index payload 0);
+    key = false;
+    layers = None;
+    body = payload;
+  });
   join = λ parts. Ok (flat_map (λ part. part.body) parts);
 }
 
@@ -56,8 +60,11 @@ moved = (5, packet false 2 0) ∷ (2052, Empty) ∷ []
 
 stays_known : known_with codec (Some 2052) 2052 None moved (told (Some 5) None four_and_five (5 ∷ 4 ∷ []))
     ≡ record {
-    arrivals = (5, shapes.Media 2 false ByNeighbour) ∷ (2052, shapes.Other) ∷ []; began = 5 ∷ []; newest =
-    Some 2052; passed = None }
+      arrivals = (5, shapes.Media 2 false ByNeighbour) ∷ (2052, shapes.Other) ∷ [];
+      began = 5 ∷ [];
+      newest = Some 2052;
+      passed = None;
+    }
 stays_known = refl
 
 -- 1 was pulled, 3 is there, and 2 comes without a payload. With the front before, 1, the run of 3 stands newly

@@ -49,8 +49,10 @@ available-key (e ∷ es) n h = elim (available_cases n e es h) [
 -- the first number, or one after it
 pub first_or_later : (n m : ℕ) → n ≤ m → (n ≡ m) ⊎ (n + 1 ≤ m)
 first_or_later n m from =
-    elim (cases_order n m) [ inl same ↦ inl same | inr
-    other ↦ elim other [ inl less ↦ inr (omega arith) | inr more ↦ absurd (omega arith) ] ]
+    elim (cases_order n m) [
+      | inl same ↦ inl same
+      | inr other ↦ elim other [ inl less ↦ inr (omega arith) | inr more ↦ absurd (omega arith) ]
+    ]
 
 module _ (codec : Meaning) (packets : Packets) where
   -- the steps to a piece, from what is there
@@ -69,25 +71,25 @@ module _ (codec : Meaning) (packets : Packets) where
       → Some (record { number = n; packet = packet; part = part }) ≡ Some piece → IsPiece codec packets n piece
   steps_piece n content text packet part piece found has_text reads part_reads made =
       subst (λ p. IsPiece codec packets n p) (same_Some _ piece made) (record {
-    number = refl;
-    text = text;
-    media = found ∙ ap Some (text_of-some content text has_text);
-    reads = reads;
-    part_reads = result_ok-some (codec.read packet.payload) part part_reads;
-  })
+        number = refl;
+        text = text;
+        media = found ∙ ap Some (text_of-some content text has_text);
+        reads = reads;
+        part_reads = result_ok-some (codec.read packet.payload) part part_reads;
+      })
 
   -- the piece at a number is its packet, and what its payload says
   pub piece_at-from : (n : ℕ) (piece : Piece) → piece_at codec packets n ≡ Some piece → IsPiece codec packets n piece
   piece_at-from n piece is =
       let a : (content : Content) × (at n packets ≡ Some content) × (from_content n content ≡ Some piece) =
-          bind-some (at n packets) (from_content n) piece is in
+      bind-some (at n packets) (from_content n) piece is in
       let b : (text : List ℕ) × (text_of a.0 ≡ Some text) × ((read text >>= from_packet n) ≡ Some piece) =
-          bind-some (text_of a.0) (λ text. read text >>= from_packet n) piece a.2 in
+      bind-some (text_of a.0) (λ text. read text >>= from_packet n) piece a.2 in
       let c : (packet : Packet) × (read b.0 ≡ Some packet) × (from_packet n packet ≡ Some piece) =
-          bind-some (read b.0) (from_packet n) piece b.2 in
+      bind-some (read b.0) (from_packet n) piece b.2 in
       let made : Part → Piece = λ part. record { number = n; packet = c.0; part = part } in
       let d : (part : Part) × (result_ok (codec.read c.0.payload) ≡ Some part) × (Some (made part) ≡ Some piece) =
-          bind-some (result_ok (codec.read c.0.payload)) (λ part. Some (made part)) piece c.2 in
+      bind-some (result_ok (codec.read c.0.payload)) (λ part. Some (made part)) piece c.2 in
       steps_piece n a.0 b.0 c.0 d.0 piece a.1 b.1 c.1 d.1 d.2
 
   -- and back
@@ -95,8 +97,8 @@ module _ (codec : Meaning) (packets : Packets) where
   piece_at-to n piece p = ap (λ o. o >>= from_content n) p.media ∙ ap (λ o. o >>= from_packet n) p.reads
       ∙ ap (λ r. result_ok r >>= λ part. Some (made n part)) p.part_reads
       ∙ ap (λ k. Some (made k piece.part)) (sym p.number) where
-    made : ℕ → Part → Piece
-    made k part = record { number = k; packet = piece.packet; part = part }
+        made : ℕ → Part → Piece
+        made k part = record { number = k; packet = piece.packet; part = part }
 
   -- the pieces of so many numbers
   pub pieces-from : (n k : ℕ) (pieces : List Piece) →
@@ -107,10 +109,10 @@ module _ (codec : Meaning) (packets : Packets) where
   pieces-from n (suc k) pieces is =
       let others : Option (List Piece) = all_some (map (piece_at codec packets) (numbers_from (n + 1) k)) in
       let a : (piece : Piece) × (piece_at codec packets n ≡ Some piece)
-          × ((others >>= λ ps. Some (piece ∷ ps)) ≡ Some pieces) =
-          bind-some (piece_at codec packets n) (λ piece. others >>= λ ps. Some (piece ∷ ps)) pieces is in
+      × ((others >>= λ ps. Some (piece ∷ ps)) ≡ Some pieces) =
+      bind-some (piece_at codec packets n) (λ piece. others >>= λ ps. Some (piece ∷ ps)) pieces is in
       let b : (ps : List Piece) × (others ≡ Some ps) × (Some (a.0 ∷ ps) ≡ Some pieces) =
-          bind-some others (λ ps. Some (a.0 ∷ ps)) pieces a.2 in
+      bind-some others (λ ps. Some (a.0 ∷ ps)) pieces a.2 in
       let rest : ArePieces codec packets (n + 1) b.0 × (length b.0 ≡ k) = pieces-from (n + 1) k b.0 b.1 in
       subst (λ ps. ArePieces codec packets n ps × (length ps ≡ suc k)) (same_Some (a.0 ∷ b.0) pieces b.2)
       ((piece_at-from n a.0 a.1, rest.0), ap suc rest.1)
@@ -191,9 +193,14 @@ module _ (codec : Meaning) (packets : Packets) (starts : Piece → Bool) where
   later_starts first n [] less are h = tt
   later_starts first n (piece ∷ pieces) less are h =
       let both : (not (starts piece) ≡ true) × (list_all (λ p. not (starts p)) pieces ≡ true) =
-          and_parts (not (starts piece)) (list_all (λ p. not (starts p)) pieces) h in
-      ((λ s. absurd (both_ways (starts piece) (not-true (starts piece) both.0) s), λ same. let number : piece.number
-      ≡ n = are.0.number in absurd (omega arith)), later_starts first (n + 1) pieces (omega arith) are.1 both.1)
+      and_parts (not (starts piece)) (list_all (λ p. not (starts p)) pieces) h in (
+        (
+          λ s. absurd (both_ways (starts piece) (not-true (starts piece) both.0) s),
+          λ same. let number : piece.number
+              ≡ n = are.0.number in absurd (omega arith),
+        ),
+        later_starts first (n + 1) pieces (omega arith) are.1 both.1,
+      )
 
   -- and back
   later_starts-to : (first n : ℕ) (pieces : List Piece) → first < n → ArePieces codec packets n pieces →
@@ -217,9 +224,14 @@ module _ (codec : Meaning) (packets : Packets) (starts : Piece → Bool) where
       ((λ _. let number : piece.number ≡ n = are.0.number in omega arith, λ _. h), tt)
   last-from test last n piece (next ∷ pieces) size are h =
       let both : (not (test piece) ≡ true) × (last_alone test (next ∷ pieces) ≡ true) =
-          and_parts (not (test piece)) (last_alone test (next ∷ pieces)) h in
-      ((λ s. absurd (both_ways (test piece) (not-true (test piece) both.0) s), λ same. let number : piece.number ≡ n =
-      are.0.number in absurd (omega arith)), last-from test last (n + 1) next pieces (omega arith) are.1 both.1)
+      and_parts (not (test piece)) (last_alone test (next ∷ pieces)) h in (
+        (
+          λ s. absurd (both_ways (test piece) (not-true (test piece) both.0) s),
+          λ same. let number : piece.number ≡ n =
+              are.0.number in absurd (omega arith),
+        ),
+        last-from test last (n + 1) next pieces (omega arith) are.1 both.1,
+      )
 
   -- and back
   last-to : (test : Piece → Bool) (last n : ℕ) (piece : Piece) (pieces : List Piece) →
@@ -241,7 +253,7 @@ same_ts-from : (ts : ℕ) (pieces : List Piece) → list_all (λ p. p.packet.ts 
 same_ts-from ts [] h = tt
 same_ts-from ts (piece ∷ pieces) h =
     let both : ((piece.packet.ts == ts) ≡ true) × (list_all (λ p. p.packet.ts == ts) pieces ≡ true) =
-        and_parts (piece.packet.ts == ts) (list_all (λ p. p.packet.ts == ts) pieces) h in
+    and_parts (piece.packet.ts == ts) (list_all (λ p. p.packet.ts == ts) pieces) h in
     (eqb-true piece.packet.ts ts both.0, same_ts-from ts pieces both.1)
 
 -- and back
@@ -276,8 +288,13 @@ module _ (codec : Meaning) (place : ℕ → Option Place) (starts : Piece → Bo
   abbrev made : ℕ → Piece → List Piece → List ℕ → Run
   made last piece pieces bytes =
       record {
-      first = piece.number; last = last; ts = piece.packet.ts; key = list_any keyed (piece ∷ pieces); layers =
-      place piece.number; bytes = bytes }
+        first = piece.number;
+        last = last;
+        ts = piece.packet.ts;
+        key = list_any keyed (piece ∷ pieces);
+        layers = place piece.number;
+        bytes = bytes;
+      }
 
   -- the conditions of a stretch, as a test
   abbrev conditions : Piece → List Piece → Bool
@@ -291,18 +308,18 @@ module _ (codec : Meaning) (place : ℕ → Option Place) (starts : Piece → Bo
       run_of codec place starts last (piece ∷ pieces) ≡ Some run → IsRunBy codec place starts packets run
   pieces_run first last piece pieces run are size is =
       let a : (conditions piece pieces ≡ true)
-          × (option_map (made last piece pieces) (result_ok (codec.join (map (λ p. p.part) (piece ∷ pieces))))
-          ≡ Some run) = tested (conditions piece pieces) _ run is in
+      × (option_map (made last piece pieces) (result_ok (codec.join (map (λ p. p.part) (piece ∷ pieces))))
+      ≡ Some run) = tested (conditions piece pieces) _ run is in
       let b : (bytes : List ℕ) × (result_ok (codec.join (map (λ p. p.part) (piece ∷ pieces))) ≡ Some bytes)
-          × (made last piece pieces bytes ≡ run) =
-          option_map-some (made last piece pieces)
-          (result_ok (codec.join (map (λ p. p.part) (piece ∷ pieces)))) run a.1 in
+      × (made last piece pieces bytes ≡ run) =
+      option_map-some (made last piece pieces)
+      (result_ok (codec.join (map (λ p. p.part) (piece ∷ pieces)))) run a.1 in
       let c : ((list_all (λ p. p.packet.ts == piece.packet.ts) pieces && first_alone starts (piece ∷ pieces)) ≡ true)
-          × (last_alone marked (piece ∷ pieces) ≡ true) = and_parts _ _ a.0 in
+      × (last_alone marked (piece ∷ pieces) ≡ true) = and_parts _ _ a.0 in
       let d : (list_all (λ p. p.packet.ts == piece.packet.ts) pieces ≡ true)
-          × (first_alone starts (piece ∷ pieces) ≡ true) = and_parts _ _ c.0 in
+      × (first_alone starts (piece ∷ pieces) ≡ true) = and_parts _ _ c.0 in
       let e : (starts piece ≡ true) × (list_all (λ p. not (starts p)) pieces ≡ true) =
-          and_parts (starts piece) (list_all (λ p. not (starts p)) pieces) d.1 in
+      and_parts (starts piece) (list_all (λ p. not (starts p)) pieces) d.1 in
       let number : piece.number ≡ first = are.0.number in
       subst (IsRunBy codec place starts packets) b.2 (record {
         pieces = piece ∷ pieces;
@@ -311,9 +328,11 @@ module _ (codec : Meaning) (place : ℕ → Option Place) (starts : Piece → Bo
         not_empty = omega arith;
         ts = All-from_recursion (λ p. p.packet.ts ≡ piece.packet.ts) (piece ∷ pieces)
             (refl, same_ts-from piece.packet.ts pieces d.0);
-        start = All-from_recursion (λ p. (starts p ≡ true) ↔ (p.number ≡ piece.number)) (piece ∷ pieces)
-            ((λ _. refl, λ _. e.0), subst (λ n. AllByRecursion (λ p. (starts p ≡ true) ↔ (p.number ≡ n)) pieces)
-            (sym number) (later_starts codec packets starts first (first + 1) pieces (omega arith) are.1 e.1));
+        start = All-from_recursion (λ p. (starts p ≡ true) ↔ (p.number ≡ piece.number)) (piece ∷ pieces) (
+          (λ _. refl, λ _. e.0),
+          subst (λ n. AllByRecursion (λ p. (starts p ≡ true) ↔ (p.number ≡ n)) pieces)
+              (sym number) (later_starts codec packets starts first (first + 1) pieces (omega arith) are.1 e.1),
+        );
         marker = All-from_recursion (λ p. (marked p ≡ true) ↔ (p.number ≡ last)) (piece ∷ pieces)
             (last-from codec packets starts marked last first piece pieces size are c.1);
         key = (λ k. list_any-from keyed (piece ∷ pieces) k, λ k. list_any-to keyed (piece ∷ pieces) k.0 k.1 k.2);
@@ -338,10 +357,10 @@ module _ (codec : Meaning) (place : ℕ → Option Place) (starts : Piece → Bo
       IsRunBy codec place starts packets run
   between-from first last run is =
       let a : (pieces : List Piece) × (stretch codec packets first last ≡ Some pieces)
-          × (run_of codec place starts last pieces ≡ Some run) =
-          bind-some (stretch codec packets first last) (run_of codec place starts last) run is in
+      × (run_of codec place starts last pieces ≡ Some run) =
+      bind-some (stretch codec packets first last) (run_of codec place starts last) run is in
       let b : ArePieces codec packets first a.0 × (length a.0 ≡ last + 1 - first) =
-          pieces-from codec packets first (last + 1 - first) a.0 a.1 in
+      pieces-from codec packets first (last + 1 - first) a.0 a.1 in
       stretch_run first last a.0 run b.0 b.1 a.2
 
   -- with these first and last numbers
@@ -350,22 +369,22 @@ module _ (codec : Meaning) (place : ℕ → Option Place) (starts : Piece → Bo
   stretch_ends first last [] run are is = absurd (none-some run is)
   stretch_ends first last (piece ∷ pieces) run are is =
       let a : (conditions piece pieces ≡ true)
-          × (option_map (made last piece pieces) (result_ok (codec.join (map (λ p. p.part) (piece ∷ pieces))))
-          ≡ Some run) = tested (conditions piece pieces) _ run is in
+      × (option_map (made last piece pieces) (result_ok (codec.join (map (λ p. p.part) (piece ∷ pieces))))
+      ≡ Some run) = tested (conditions piece pieces) _ run is in
       let b : (bytes : List ℕ) × (result_ok (codec.join (map (λ p. p.part) (piece ∷ pieces))) ≡ Some bytes)
-          × (made last piece pieces bytes ≡ run) =
-          option_map-some (made last piece pieces)
-          (result_ok (codec.join (map (λ p. p.part) (piece ∷ pieces)))) run a.1 in
+      × (made last piece pieces bytes ≡ run) =
+      option_map-some (made last piece pieces)
+      (result_ok (codec.join (map (λ p. p.part) (piece ∷ pieces)))) run a.1 in
       (sym (ap (λ (r : Run). r.first) b.2) ∙ are.0.number, sym (ap (λ (r : Run). r.last) b.2))
 
   pub between-ends : (first last : ℕ) (run : Run) → between first last ≡ Some run →
       (run.first ≡ first) × (run.last ≡ last)
   between-ends first last run is =
       let a : (pieces : List Piece) × (stretch codec packets first last ≡ Some pieces)
-          × (run_of codec place starts last pieces ≡ Some run) =
-          bind-some (stretch codec packets first last) (run_of codec place starts last) run is in
+      × (run_of codec place starts last pieces ≡ Some run) =
+      bind-some (stretch codec packets first last) (run_of codec place starts last) run is in
       let b : ArePieces codec packets first a.0 × (length a.0 ≡ last + 1 - first) =
-          pieces-from codec packets first (last + 1 - first) a.0 a.1 in
+      pieces-from codec packets first (last + 1 - first) a.0 a.1 in
       stretch_ends first last a.0 run b.0 a.2
 
   -- what is among the runs is one
@@ -374,9 +393,9 @@ module _ (codec : Meaning) (place : ℕ → Option Place) (starts : Piece → Bo
   runs-from run there =
       let numbers : List ℕ = map (λ entry. entry.0) packets in
       let a : (first : ℕ) × Contains numbers first × Contains (filter_map (between first) numbers) run =
-          flat_map-from (λ first. filter_map (between first) numbers) numbers run there in
+      flat_map-from (λ first. filter_map (between first) numbers) numbers run there in
       let b : (last : ℕ) × Contains numbers last × (between a.0 last ≡ Some run) =
-          filter_map-from (between a.0) numbers run a.2 in
+      filter_map-from (between a.0) numbers run a.2 in
       between-from a.0 b.0 run b.2
 
 module _ (codec : Meaning) (place : ℕ → Option Place) (starts : Piece → Bool) (packets : Packets) where
@@ -392,22 +411,22 @@ module _ (codec : Meaning) (place : ℕ → Option Place) (starts : Piece → Bo
   run_of-to run piece pieces are size ts start marker key layers joins =
       let number : piece.number ≡ run.first = are.0.number in
       let times_agree : list_all (λ p. p.packet.ts == piece.packet.ts) pieces ≡ true =
-          same_ts-to piece.packet.ts pieces
-          (subst (λ t. AllByRecursion (λ p. p.packet.ts ≡ t) pieces) (sym ts.0) ts.1) in
+      same_ts-to piece.packet.ts pieces
+      (subst (λ t. AllByRecursion (λ p. p.packet.ts ≡ t) pieces) (sym ts.0) ts.1) in
       let starts_alone : first_alone starts (piece ∷ pieces) ≡ true =
-          and_from (starts piece) (list_all (λ p. not (starts p)) pieces) (start.0.1 number)
-          (later_starts-to codec packets starts run.first (run.first + 1) pieces (omega arith) are.1 start.1) in
+      and_from (starts piece) (list_all (λ p. not (starts p)) pieces) (start.0.1 number)
+      (later_starts-to codec packets starts run.first (run.first + 1) pieces (omega arith) are.1 start.1) in
       let ends_alone : last_alone (λ p. p.packet.marker) (piece ∷ pieces) ≡ true =
-          last-to codec packets starts (λ p. p.packet.marker) run.last run.first piece pieces size are marker in
+      last-to codec packets starts (λ p. p.packet.marker) run.last run.first piece pieces size are marker in
       let all_hold : conditions codec place starts packets piece pieces ≡ true =
-          and_from (list_all (λ p. p.packet.ts == piece.packet.ts) pieces && first_alone starts (piece ∷ pieces))
-          (last_alone (λ p. p.packet.marker) (piece ∷ pieces))
+      and_from (list_all (λ p. p.packet.ts == piece.packet.ts) pieces && first_alone starts (piece ∷ pieces))
+      (last_alone (λ p. p.packet.marker) (piece ∷ pieces))
       (and_from (list_all (λ p. p.packet.ts == piece.packet.ts) pieces)
       (first_alone starts (piece ∷ pieces)) times_agree starts_alone) ends_alone in
       let keys : list_any (λ p. p.part.key) (piece ∷ pieces) ≡ run.key =
-          same_test (list_any (λ p. p.part.key) (piece ∷ pieces)) run.key
-          (λ h. key.1 (list_any-from (λ p. p.part.key) (piece ∷ pieces) h))
-          (λ h. list_any-to (λ p. p.part.key) (piece ∷ pieces) (key.0 h).0 (key.0 h).1 (key.0 h).2) in
+      same_test (list_any (λ p. p.part.key) (piece ∷ pieces)) run.key
+      (λ h. key.1 (list_any-from (λ p. p.part.key) (piece ∷ pieces) h))
+      (λ h. list_any-to (λ p. p.part.key) (piece ∷ pieces) (key.0 h).0 (key.0 h).1 (key.0 h).2) in
       let from : List ℕ → Run = made codec place starts packets run.last piece pieces in
       ap (λ b. cond b (option_map from (result_ok (codec.join (map (λ p. p.part) (piece ∷ pieces))))) None) all_hold
       ∙ ap (λ r. option_map from (result_ok r)) joins
@@ -438,11 +457,11 @@ module _ (codec : Meaning) (place : ℕ → Option Place) (starts : Piece → Bo
       let within : run.first ≤ run.last = r.not_empty in
       let size : run.first + length r.pieces ≡ run.last + 1 = r.to_last in
       let first : Contains numbers run.first =
-          available-key packets run.first
-          (pieces-available codec packets run.first run.first r.pieces r.from_first (omega arith) (omega arith)) in
+      available-key packets run.first
+      (pieces-available codec packets run.first run.first r.pieces r.from_first (omega arith) (omega arith)) in
       let last : Contains numbers run.last =
-          available-key packets run.last
-          (pieces-available codec packets run.first run.last r.pieces r.from_first within (omega arith)) in
+      available-key packets run.last
+      (pieces-available codec packets run.first run.last r.pieces r.from_first within (omega arith)) in
       flat_map-to (λ n. filter_map (between codec place starts packets n) numbers) numbers run.first run first
       (filter_map-to (between codec place starts packets run.first) numbers run.last run last
       (between-to run r.pieces r.from_first size within (recursion_from_All _ r.pieces r.ts)

@@ -133,26 +133,31 @@ module _ (codec : Meaning) (held : List (ℕ × HeldPacket)) (newest n : ℕ) (s
     | inl none ↦ absurd (none-some told
         (sym (entries m ∙ ap (option_map (remember_if (ends_in now (m - 1)))) none) ∙ is))
     | inr some ↦ record {
-        before = some.0; is = some.1; told_is =
-        same_Some told (remember_if (ends_in now (m - 1)) some.0)
-        (sym is ∙ entries m ∙ ap (option_map (remember_if (ends_in now (m - 1)))) some.1) }
+      before = some.0;
+      is = some.1;
+      told_is =
+          same_Some told (remember_if (ends_in now (m - 1)) some.0)
+          (sym is ∙ entries m ∙ ap (option_map (remember_if (ends_in now (m - 1)))) some.1);
+    }
   ]
 
   -- the ends of frames are the same
   ends-ring : (m : ℕ) → ends_at ring.entries m ≡ ends_in now m
   ends-ring m =
       ap (λ o. option_map_or (λ (told : Arrival). ends told.shape) o false) (entries m) ∙ either (now m) where
-    either : (o : Option Arrival) →
-        option_map_or (λ (told : Arrival). ends told.shape) (option_map (remember_if (ends_in now (m - 1))) o) false
-        ≡ option_map_or (λ (told : Arrival). ends told.shape) o false
-    either None = refl
-    either (Some told) = refl
+        either : (o : Option Arrival) →
+            option_map_or (λ (told : Arrival). ends told.shape)
+            (option_map (remember_if (ends_in now (m - 1))) o) false
+            ≡ option_map_or (λ (told : Arrival). ends told.shape) o false
+        either None = refl
+        either (Some told) = refl
 
   -- each number that stands after the end of a frame is remembered
   pub stays-kept : IsKept ring
   stays-kept = record {
-      numbered = numbered; settled =
-      λ m told is behind. remembers m told (stood m told is) (sym (ends-ring (m - 1)) ∙ behind) } where
+    numbered = numbered;
+    settled = λ m told is behind. remembers m told (stood m told is) (sym (ends-ring (m - 1)) ∙ behind);
+  } where
     remembers : (m : ℕ) (told : Arrival) → Stood m told → ends_in now (m - 1) ≡ true → told.began ≡ true
     remembers m told s behind =
         ap (λ (t : Arrival). t.began) s.told_is ∙ ap (λ b. s.before.began || b) behind ∙ or-true s.before.began
@@ -182,7 +187,7 @@ module _ (codec : Meaning) (held : List (ℕ × HeldPacket)) (newest n : ℕ) (s
     | inr other ↦ let w : (in_window newest m ≡ true) × (at m old.entries ≡ Some told) =
         was newest n shape old kept inside m told other is in
         let e : option_map (shape_of codec) (at m packets) ≡ Some told.shape =
-            still m told.shape (at-shapes old.entries m ∙ ap (option_map (λ (t : Arrival). t.shape)) w.1) w.0 in
+        still m told.shape (at-shapes old.entries m ∙ ap (option_map (λ (t : Arrival). t.shape)) w.1) w.0 in
         elim (packet-cases (at m held)) [
           | inl none ↦ absurd (none-some told.shape
               (sym (ap (option_map (shape_of codec)) (at-contents held m ∙ ap (option_map content_of) none)) ∙ e))
@@ -367,7 +372,7 @@ module _ (codec : Meaning) (held : List (ℕ × HeldPacket)) (newest n : ℕ) (s
       let t : (told : Arrival) × (at m ring.entries ≡ Some told) = told-if m (Media piece.text) piece.media in
       let h : HasPacket m t.0 = has-packet m t.0 t.1 in
       let content : content_of h.packet ≡ Media piece.text =
-          same_Some (content_of h.packet) (Media piece.text) (sym (known_packets-there m t.0 t.1 h) ∙ piece.media) in
+      same_Some (content_of h.packet) (Media piece.text) (sym (known_packets-there m t.0 t.1 h) ∙ piece.media) in
       record {
         told = t.0;
         is = t.1;
@@ -419,10 +424,12 @@ module _ (codec : Meaning) (held : List (ℕ × HeldPacket)) (newest n : ℕ) (s
     media began (helds.Media text marker ts start key layers) s there e =
         let p : Piece = record { number = m; packet = s.packet; part = s.part } in
         let piece : IsPiece codec known_after m p =
-            record { number = refl; text = text; media = there; reads = s.reads; part_reads = s.part_reads } in
+        record { number = refl; text = text; media = there; reads = s.reads; part_reads = s.part_reads } in
         record {
-            piece = p; is = piece; fact_is =
-            same_Some fact (fact_of_piece starts_after p) (sym is ∙ fact-of m p piece) }
+          piece = p;
+          is = piece;
+          fact_is = same_Some fact (fact_of_piece starts_after p) (sym is ∙ fact-of m p piece);
+        }
     media began (helds.Empty marker) s there e = absurd (none-some fact e)
     media began (helds.Fec payload) s there e = absurd (none-some fact e)
 
@@ -449,17 +456,17 @@ module _ (codec : Meaning) (held : List (ℕ × HeldPacket)) (newest n : ℕ) (s
     nothing : (es : List (ℕ × Arrival)) → at m packets ≡ None → at m (packets_under (shapes_of es) packets) ≡ None
     nothing es none = at-known_packets es packets m ∙ ap (λ o. cond (is_available m es) o None) none
         ∙ either (is_available m es) where
-      either : (b : Bool) → ◌≡◌ {A = Option Content} (cond b None None) None
-      either true = refl
-      either false = refl
+          either : (b : Bool) → ◌≡◌ {A = Option Content} (cond b None None) None
+          either true = refl
+          either false = refl
 
     available : in_window newest m ≡ true → is_available m ring.entries ≡ is_available m old.entries
     available h = ap is_some (entries m) ∙ somewhere (now m)
         ∙ ap is_some (now-other newest n shape old kept inside m other
         ∙ ap (λ b. cond b (at m old.entries) None) h) where
-      somewhere : (o : Option Arrival) → is_some (option_map (remember_if (ends_in now (m - 1))) o) ≡ is_some o
-      somewhere None = refl
-      somewhere (Some t) = refl
+          somewhere : (o : Option Arrival) → is_some (option_map (remember_if (ends_in now (m - 1))) o) ≡ is_some o
+          somewhere None = refl
+          somewhere (Some t) = refl
 
   -- a number that is neither the one told nor the one after it is a start as before
   kept-else : (p : Piece) (m : ℕ) → m ≢ n → m ≢ n + 1 → IsPiece codec known_after m p →
@@ -501,11 +508,11 @@ module _ (codec : Meaning) (held : List (ℕ × HeldPacket)) (newest n : ℕ) (s
       let s : Stood (n + 1) t.told = stood (n + 1) t.told t.is in
       let other : n + 1 ≢ n = λ e. absurd (omega arith) in
       let w : (in_window newest (n + 1) ≡ true) × (at (n + 1) old.entries ≡ Some s.before) =
-          was newest n shape old kept inside (n + 1) s.before other s.is in
+      was newest n shape old kept inside (n + 1) s.before other s.is in
       let upto : n + 1 ≤ newest = in-upto newest (n + 1) w.0 in
       let less : nat_lt n newest ≡ true = lt-ltb n newest (omega arith) in
       let after_is : starts_at passed ring.entries (n + 1) ≡ starts_after p =
-          ap (λ o. option_map_or (λ (f : Fact). f.starts) o false) (fact-of (n + 1) p piece) in
+      ap (λ o. option_map_or (λ (f : Fact). f.starts) o false) (fact-of (n + 1) p piece) in
       let before_is : starts_at passed old.entries (n + 1) ≡ starts_before p =
       ap (λ o. option_map_or (λ (f : Fact). f.starts) (option_and_then (fact_of passed (n + 1)) o) false) w.1
       ∙ ap (λ x. option_map_or (λ (f : Fact). f.starts) (fact_with passed (n + 1) s.before.began x) false)
@@ -543,16 +550,19 @@ module _ (codec : Meaning) (held : List (ℕ × HeldPacket)) (newest n : ℕ) (s
   next-cases inside_m = elim (under-cases (now (n + 1))) [
     | inl none ↦ inl (
       ap (option_and_then (fact_of passed (n + 1)))
-      (entries (n + 1) ∙ ap (option_map (remember_if (ends_in now (n + 1 - 1)))) none),
+          (entries (n + 1) ∙ ap (option_map (remember_if (ends_in now (n + 1 - 1)))) none),
       ap (option_and_then (fact_of passed (n + 1)))
-      (sym (now-other newest n shape old kept inside (n + 1) other
-      ∙ ap (λ b. cond b (at (n + 1) old.entries) None) inside_m) ∙ none),
+          (sym (now-other newest n shape old kept inside (n + 1) other
+          ∙ ap (λ b. cond b (at (n + 1) old.entries) None) inside_m) ∙ none),
     )
     | inr some ↦ let w : (in_window newest (n + 1) ≡ true) × (at (n + 1) old.entries ≡ Some some.0) =
         was newest n shape old kept inside (n + 1) some.0 other some.1 in
-        inr (some.0, ap (option_and_then (fact_of passed (n + 1)))
-        (entries (n + 1) ∙ ap (option_map (remember_if (ends_in now (n + 1 - 1)))) some.1),
-        ap (option_and_then (fact_of passed (n + 1))) w.1)
+        inr (
+          some.0,
+          ap (option_and_then (fact_of passed (n + 1)))
+              (entries (n + 1) ∙ ap (option_map (remember_if (ends_in now (n + 1 - 1)))) some.1),
+          ap (option_and_then (fact_of passed (n + 1))) w.1,
+        )
   ] where
     other : n + 1 ≢ n
     other e = absurd (omega arith)

@@ -46,12 +46,16 @@ shape_at codec n packets = option_map_or (shape_of codec) (at n packets) shapes.
 abbrev pub known_with : Meaning → Option ℕ → ℕ → Option ℕ → Packets → Known → Known
 known_with codec newest n passed packets k =
     record {
-    arrivals = told; began = filter began (map (λ entry. entry.0) told); newest = newest; passed = passed } where
-  told : List (ℕ × Shape)
-  told = put nat_cmp n (shape_at codec n packets) (where_key nat_cmp (is_inside newest) k.arrivals)
+      arrivals = told;
+      began = filter began (map (λ entry. entry.0) told);
+      newest = newest;
+      passed = passed;
+    } where
+      told : List (ℕ × Shape)
+      told = put nat_cmp n (shape_at codec n packets) (where_key nat_cmp (is_inside newest) k.arrivals)
 
-  began : ℕ → Bool
-  began m = is_among k.began m || stands_after_end m (packets_under told packets)
+      began : ℕ → Bool
+      began m = is_among k.began m || stands_after_end m (packets_under told packets)
 
 -- the runs that stand beyond the passed numbers, of what is known
 abbrev pub standing_runs : Meaning → (ℕ → Option Place) → Option ℕ → Known → Packets → List Run

@@ -31,8 +31,13 @@ octets_of codec parts = option_map length (result_ok (codec.join parts))
 abbrev pub summary_with : Meaning → (ℕ → Option Place) → Span → List Part → Option RunSummary
 summary_with codec place span parts =
     option_map (λ octets. record {
-    first = span.first; last = span.last; ts = span.ts; key = says_key parts; layers = place span.first; octets =
-    octets }) (octets_of codec parts)
+      first = span.first;
+      last = span.last;
+      ts = span.ts;
+      key = says_key parts;
+      layers = place span.first;
+      octets = octets;
+    }) (octets_of codec parts)
 
 -- what is told of a span, if its parts join
 abbrev pub span_summary : Meaning → (ℕ → Option Place) → Packets → Span → Option RunSummary

@@ -113,9 +113,13 @@ run_of codec place starts last (piece ∷ pieces) =
     (λ p. p.packet.marker) (piece ∷ pieces)
     then option_map (λ bytes.
     record {
-    first = piece.number; last = last; ts = piece.packet.ts; key =
-    list_any (λ p. p.part.key) (piece ∷ pieces); layers = place piece.number; bytes =
-    bytes }) (result_ok (codec.join (map (λ p. p.part) (piece ∷ pieces))))
+      first = piece.number;
+      last = last;
+      ts = piece.packet.ts;
+      key = list_any (λ p. p.part.key) (piece ∷ pieces);
+      layers = place piece.number;
+      bytes = bytes;
+    }) (result_ok (codec.join (map (λ p. p.part) (piece ∷ pieces))))
     else None
 
 -- the runs whose starts are those of this test, by their first number and then by their last
@@ -123,13 +127,19 @@ abbrev pub runs_by : Meaning → (ℕ → Option Place) → (Piece → Bool) →
 runs_by codec place starts packets =
     flat_map (λ first. filter_map
     (λ last. stretch codec packets first last >>= run_of codec place starts last) numbers) numbers where
-  numbers : List ℕ
-  numbers = map (λ entry. entry.0) packets
+      numbers : List ℕ
+      numbers = map (λ entry. entry.0) packets
 
 -- what is told of a run
 abbrev pub summary_of : Run → RunSummary
 summary_of run = record {
-    first = run.first; last = run.last; ts = run.ts; key = run.key; layers = run.layers; octets = length run.bytes }
+  first = run.first;
+  last = run.last;
+  ts = run.ts;
+  key = run.key;
+  layers = run.layers;
+  octets = length run.bytes;
+}
 
 -- a run stands if it begins beyond this number, or if there is no number
 abbrev pub stands : Option ℕ → Run → Bool

@@ -244,24 +244,51 @@ ends_late : (carried begun behind : List Piece) (first : Fragment) (inner : List
     IsBegun begun first inner → carried ≡ begun ++ behind → NoLater behind → Outcome carried
 ends_late carried begun behind first inner is spelled none =
     Ends_late (record {
-    units = []; before = []; begun = begun; first = first; inner = inner; behind = behind; spelled = spelled; are =
-    refl; is_begun = is; none = none })
+      units = [];
+      before = [];
+      begun = begun;
+      first = first;
+      inner = inner;
+      behind = behind;
+      spelled = spelled;
+      are = refl;
+      is_begun = is;
+      none = none;
+    })
 
 mixes : (carried begun behind : List Piece) (first : Fragment) (inner : List Fragment) (f : Fragment) →
     IsBegun begun first inner → carried ≡ begun ++ Cut f ∷ behind → begins f ≡ false →
     kind first.header ≢ kind f.header → Outcome carried
 mixes carried begun behind first inner f is spelled later other =
     Mixes (record {
-    units = []; before = []; begun = begun; first = first; inner = inner; fragment = f; behind = behind; spelled =
-    spelled; are = refl; is_begun = is; later = later; other = other })
+      units = [];
+      before = [];
+      begun = begun;
+      first = first;
+      inner = inner;
+      fragment = f;
+      behind = behind;
+      spelled = spelled;
+      are = refl;
+      is_begun = is;
+      later = later;
+      other = other;
+    })
 
 cut_unit : (begun : List Piece) (first : Fragment) (inner : List Fragment) (f : Fragment) →
     IsBegun begun first inner → IsLater (kind first.header) true f →
     IsCutUp (begun ++ Cut f ∷ []) (first_octet first ∷ (first.octets ++ (flat_map (λ f. f.octets) inner ++ f.octets)))
 cut_unit begun first inner f is ended =
     record {
-    front = begun; first = first; inner = inner; last = f; is_begun = is; spelled = refl; ended = ended; rebuilt =
-    refl }
+      front = begun;
+      first = first;
+      inner = inner;
+      last = f;
+      is_begun = is;
+      spelled = refl;
+      ended = ended;
+      rebuilt = refl;
+    }
 
 first_begun : (f : Fragment) → begins f ≡ true → IsBegun (Cut f ∷ []) f []
 first_begun f is = record { spelled = refl; begun = is; inside = tt }
@@ -281,7 +308,14 @@ outcome (Cut f ∷ later) before carried None is spelled =
       | inl begun ↦ outcome later (Cut f ∷ []) carried (Some (f, [])) (first_begun f begun) whole
       | inr inside ↦ Starts_late
           (record {
-          units = []; before = []; fragment = f; behind = later; spelled = whole; are = refl; later = inside })
+            units = [];
+            before = [];
+            fragment = f;
+            behind = later;
+            spelled = whole;
+            are = refl;
+            later = inside;
+          })
     ]
 outcome (Cut f ∷ later) before carried (Some b) is spelled =
     elim (cases_Bool (begins f)) [

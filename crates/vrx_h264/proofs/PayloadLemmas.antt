@@ -93,8 +93,10 @@ right_front high low size octets is_high is_low sum are right =
     let some = unit_kind_is (unit_kind octets) right.unit in
     record {
       spelled = rw is_first (rw is_second (ap (λ (x : List ℕ). high ∷ low ∷ x) (sym (take-append-drop size octets))));
-      unit = (unit_of_kind (take size octets) (subst IsUnitKind (sym (unit_kind-take size octets right.some)) some),
-          omega (arith, long));
+      unit = (
+        unit_of_kind (take size octets) (subst IsUnitKind (sym (unit_kind-take size octets right.some)) some),
+        omega (arith, long),
+      );
       behind = All-drop (λ octet. octet < 256) size octets are;
     }
 
@@ -214,8 +216,10 @@ unfolding units_of
 units-divide octets are =
     let s = splits_within (length octets) octets are in
     record {
-        spelled = s.spelled; each = s.each; stops =
-        first_unit-stops (units_of octets).left (stops_within (length octets) octets (omega arith)) }
+      spelled = s.spelled;
+      each = s.each;
+      stops = first_unit-stops (units_of octets).left (stops_within (length octets) octets (omega arith));
+    }
 
 -- if something is wrong at one offset, it is at each
 fault_anywhere : (at : ℕ) (octets : List ℕ) → unit_fault at octets ≡ None → unit_fault 0 octets ≡ None
@@ -243,11 +247,11 @@ spelled_units : (head : ℕ) (octets : List ℕ) → kind head ≡ STAP_A → Ar
 spelled_units head octets says are none =
     let d = units-divide octets are in
     let w = whole_units (length octets) octets (units_of octets).left
-        (λ empty. ap (λ (x : List ℕ). (units_of x).left) empty ∙ ap (λ (x : Units). x.left) (units_of-none [] refl))
-        d.stops none in
+    (λ empty. ap (λ (x : List ℕ). (units_of x).left) empty ∙ ap (λ (x : Units). x.left) (units_of-none [] refl))
+    d.stops none in
     let spelled : octets ≡ flat_map with_size (units_of octets).units = d.spelled
-        ∙ ap (λ (x : List ℕ). flat_map with_size (units_of octets).units ++ x) w.ends
-        ∙ append-nil (flat_map with_size (units_of octets).units) in
+    ∙ ap (λ (x : List ℕ). flat_map with_size (units_of octets).units ++ x) w.ends
+    ∙ append-nil (flat_map with_size (units_of octets).units) in
     record {
       head = head;
       units = (units_of octets).units;
@@ -271,7 +275,7 @@ spelled_cut : (head : ℕ) (octets : List ℕ) → kind head ≡ FU_A → cut_fa
 spelled_cut head [] says none = absurd cc
 spelled_cut head (header ∷ octets) says none =
     let parts = both_if (bit BIT_S header) (bit BIT_E header) (is_unit_kind (kind header))
-        (record { code = FU_BOTH; at = 1 }) (record { code = KIND; at = 1 }) none in
+    (record { code = FU_BOTH; at = 1 }) (record { code = KIND; at = 1 }) none in
     record {
       fragment = record { indicator = head; header = header; octets = octets };
       spelled = refl;

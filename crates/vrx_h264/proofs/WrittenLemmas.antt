@@ -252,9 +252,10 @@ fragments_joined unit (len ∷ next ∷ lens) is two some ended =
     let first = sum_by-cons (λ (n : ℕ). n) len (next ∷ lens) in
     let second = sum_by-cons (λ (n : ℕ). n) next lens in
     let total : 1 + len + next + sum lens ≡ length unit = omega (arith, first, second) in
-    let each : AllByRecursion (λ len. len + 1 < length unit) (len ∷ next ∷ lens) =
-        (omega (arith, total, some.1.0),
-        none_all (length unit) (1 + len) (next ∷ lens) (omega (arith, some.0)) (omega (arith, first))) in
+    let each : AllByRecursion (λ len. len + 1 < length unit) (len ∷ next ∷ lens) = (
+      omega (arith, total, some.1.0),
+      none_all (length unit) (1 + len) (next ∷ lens) (omega (arith, some.0)) (omega (arith, first)),
+    ) in
     record {
       parts = parts_of unit 1 (len ∷ next ∷ lens);
       read = parts_read unit is 1 (len ∷ next ∷ lens) each;

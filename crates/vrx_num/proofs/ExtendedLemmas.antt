@@ -12,8 +12,10 @@ pub extended_number-some : {newest wire n : ℕ} → 32768 ≤ newest → wire <
     extended_number (Some newest) wire ≡ Some n → Extends newest wire n
 extended_number-some newest_from wire_below given =
     record {
-    same = grind (arith, common_steps); not_far_ahead = grind (arith, common_steps); not_far_behind =
-    grind (arith, common_steps) }
+      same = grind (arith, common_steps);
+      not_far_ahead = grind (arith, common_steps);
+      not_far_behind = grind (arith, common_steps);
+    }
 
 -- the number that the wire number means is what extending gives
 pub extended_number-extends : {newest wire n : ℕ} → 32768 ≤ newest → wire < 65536 → Extends newest wire n →

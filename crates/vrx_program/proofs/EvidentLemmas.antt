@@ -67,9 +67,11 @@ module _ (settings : Settings) (sender : Sender) where
   part_at f frame count k i d m j [] are within is_m is_j = absurd (omega arith)
   part_at f frame count k i zero m j (c ∷ cs) are within is_m is_j =
       let same_k : k ≡ m = omega arith in
-      let same_i : i ≡ j = omega arith in
-      (c, subst (λ (x : ℕ). IsPart settings vp8 sender f frame count x j c) same_k
-      (subst (λ (y : ℕ). IsPart settings vp8 sender f frame count k y c) same_i are.0))
+      let same_i : i ≡ j = omega arith in (
+        c,
+        subst (λ (x : ℕ). IsPart settings vp8 sender f frame count x j c) same_k
+            (subst (λ (y : ℕ). IsPart settings vp8 sender f frame count k y c) same_i are.0),
+      )
   part_at f frame count k i (suc d) m j (c ∷ cs) are within is_m is_j =
       part_at f frame count (k + 1) (i + 1) d m j cs are.1 (omega arith) (omega arith) (omega arith)
 
@@ -84,23 +86,27 @@ module _ (settings : Settings) (sender : Sender) where
         IsSomeAnd (slice_get sender.packets from) (SaysStart vp8)
     by_part g frame travels zero here within =
         let p : (c : CarriedPart) × IsPart settings vp8 sender g frame (length (honest.parts g)) 0 from c =
-            part_at g frame (length (honest.parts g)) 0 (honest.place g) 0 0 from
-            (honest.parts g) travels.each within refl (omega arith) in
-        there_and (SaysStart vp8) (slice_get sender.packets from) (Media g 0 p.0.text) p.1.sent
-        (p.0.packet, p.0.part, p.1.media.reads, p.1.media.part_reads,
-        first_says p.0.packet.payload p.0.part p.1.media.part_reads p.1.start)
+        part_at g frame (length (honest.parts g)) 0 (honest.place g) 0 0 from
+        (honest.parts g) travels.each within refl (omega arith) in
+        there_and (SaysStart vp8) (slice_get sender.packets from) (Media g 0 p.0.text) p.1.sent (
+          p.0.packet,
+          p.0.part,
+          p.1.media.reads,
+          p.1.media.part_reads,
+          first_says p.0.packet.payload p.0.part p.1.media.part_reads p.1.start,
+        )
     by_part g frame travels (suc k) here within =
         let p : (c : CarriedPart) × IsPart settings vp8 sender g frame (length (honest.parts g)) (suc k) from c =
-            part_at g frame (length (honest.parts g)) 0 (honest.place g) (suc k) (suc k) from
-            (honest.parts g) travels.each within (omega arith) (omega arith) in
+        part_at g frame (length (honest.parts g)) 0 (honest.place g) (suc k) (suc k) from
+        (honest.parts g) travels.each within (omega arith) (omega arith) in
         let q : (c : CarriedPart) × IsPart settings vp8 sender g frame (length (honest.parts g)) k (from - 1) c =
-            part_at g frame (length (honest.parts g)) 0 (honest.place g) k k (from - 1) (honest.parts g) travels.each
-            (omega arith) (omega arith) (omega arith) in
+        part_at g frame (length (honest.parts g)) 0 (honest.place g) k k (from - 1) (honest.parts g) travels.each
+        (omega arith) (omega arith) (omega arith) in
         let same : g ≡ f =
-            and_there (IsOf f) (slice_get sender.packets from) (Media g (suc k) p.0.text) p.1.sent of_frame in
+        and_there (IsOf f) (slice_get sender.packets from) (Media g (suc k) p.0.text) p.1.sent of_frame in
         let bounds : (from ≤ from - 1) × (from - 1 ≤ to) =
-            (spans.exactly (from - 1)).0
-            (there_and (IsOf f) (slice_get sender.packets (from - 1)) (Media g k q.0.text) q.1.sent same) in
+        (spans.exactly (from - 1)).0
+        (there_and (IsOf f) (slice_get sender.packets (from - 1)) (Media g k q.0.text) q.1.sent same) in
         absurd (omega (arith, bounds.0, here))
 
     -- the frame of which it is a part is there
@@ -119,7 +125,7 @@ module _ (settings : Settings) (sender : Sender) where
     says : IsSomeAnd (slice_get sender.packets from) (SaysStart vp8)
     says =
         let w : (packet : SentPacket) × (slice_get sender.packets from ≡ Some packet) =
-            what_is_there (IsOf f) (slice_get sender.packets from) of_frame in
+        what_is_there (IsOf f) (slice_get sender.packets from) of_frame in
         elim (honest.no_other from (slice_get_within sender.packets from w.0 w.1)) [
           | inl empty ↦ absurd (and_there (IsOf f) (slice_get sender.packets from) Empty empty of_frame)
           | inr p ↦ by_frame p.0 (slice_get sender.frames p.0) refl p.1 p.2 p.3

@@ -54,14 +54,14 @@ module _ (outcome : List ℕ → Outcome) where
       over (Some capture) is =
           ends-first errors.Settings capture status sink last after
           (heads.refuses capture (subst (λ c. HasNoHead (lines_of c)) (sym told.2) (none told.0 follows))) ends where
-        told : (rest : List ℕ) × (after ≡ Some rest) × (capture ≡ p.read ++ rest)
-        told = ahead-told p.read capture after (sym is ∙ p.source)
+            told : (rest : List ℕ) × (after ≡ Some rest) × (capture ≡ p.read ++ rest)
+            told = ahead-told p.read capture after (sym is ∙ p.source)
 
-        follows : MayFollow new told.0
-        follows ended = by_end (p.end ended) where
-          by_end : (false ≡ true) ⊎ IsSpent after → told.0 ≡ []
-          by_end (inl never) = cc never
-          by_end (inr spent) = subst IsSpent told.1 spent
+            follows : MayFollow new told.0
+            follows ended = by_end (p.end ended) where
+              by_end : (false ≡ true) ⊎ IsSpent after → told.0 ≡ []
+              by_end (inl never) = cc never
+              by_end (inr spent) = subst IsSpent told.1 spent
 
     -- a read of the first line failed
     pub ends-unread : HasNoFeed new.kept → length new.kept ≤ longest_line →
@@ -89,8 +89,8 @@ module _ (outcome : List ℕ → Outcome) where
       EndsOver outcome status source sink left last
   ends-refusal lines_join readings_join source sink line reader left last reason status read refuses ends =
       over source refl where
-    over : (o : Option (List ℕ)) → source ≡ o → EndsOver outcome status o sink left last
-    over None is = tt
-    over (Some capture) is = let f =
-        reads-front lines_join readings_join most_events source line reader left [] read capture is in
-        ends-first reason capture status sink last left (refuses capture f.0 f.1) ends
+        over : (o : Option (List ℕ)) → source ≡ o → EndsOver outcome status o sink left last
+        over None is = tt
+        over (Some capture) is = let f =
+            reads-front lines_join readings_join most_events source line reader left [] read capture is in
+            ends-first reason capture status sink last left (refuses capture f.0 f.1) ends

@@ -79,10 +79,13 @@ call-front first r whole (more, is) =
     let rest = before_tick-front r.events more in
     let told : List ℕ = transcript first.1 (meaning_of first.0) [] (before_tick r.events) in
     let behind : List ℕ = transcript first.1 (meaning_of first.0) (history_after [] (before_tick r.events)) rest.0 in
-    let last : List ℕ = error_text (call_with first whole).bad in
-    (behind ++ last, ap (λ t. t ++ last)
-    (ap (transcript first.1 (meaning_of first.0) []) (ap before_tick is ∙ rest.1)
-    ∙ transcript-more (meaning_of first.0) first.1 [] (before_tick r.events) rest.0) ∙ append_assoc told behind last)
+    let last : List ℕ = error_text (call_with first whole).bad in (
+      behind ++ last,
+      ap (λ t. t ++ last)
+          (ap (transcript first.1 (meaning_of first.0) []) (ap before_tick is ∙ rest.1)
+          ∙ transcript-more (meaning_of first.0) first.1 [] (before_tick r.events) rest.0)
+          ∙ append_assoc told behind last,
+    )
 
 lines-front : (lines others : List (List ℕ)) →
     Leads (outcome_of (call_in lines)).text (text_of_outcome (outcome_of (call_in (lines ++ others))))
@@ -113,7 +116,7 @@ took-lines lines_join capture before after left t =
     let told = ahead-told (t.lines ++ t.part) capture left t.read in
     let front = whole-front lines_join t.lines (t.part ++ told.0) t.whole in
     let whole : text_of_outcome (replay_outcome capture) ≡ (replay_outcome t.lines).text ++ front.0 =
-        ap (λ c. text_of_outcome (replay_outcome c)) (told.2 ∙ append_assoc t.lines t.part told.0) ∙ front.1 in
+    ap (λ c. text_of_outcome (replay_outcome c)) (told.2 ∙ append_assoc t.lines t.part told.0) ∙ front.1 in
     subst (TookPrefix before after) (sym whole)
     (took-more before after (replay_outcome t.lines).text front.0
     (took-all-of before after (replay_outcome t.lines).text t.took))

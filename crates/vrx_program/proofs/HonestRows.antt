@@ -48,16 +48,26 @@ second_frame = record { bytes = 1 ∷ 204 ∷ []; key = false; ts = 9; reference
 
 abbrev sender : Sender
 sender = record {
-    first_wire = 65535; frames = first_frame ∷ second_frame ∷ []; packets =
-    Media 0 0 first_text ∷ Media 0 1 second_text ∷ Empty ∷ Media 1 0 third_text ∷ [] }
+  first_wire = 65535;
+  frames = first_frame ∷ second_frame ∷ [];
+  packets = Media 0 0 first_text ∷ Media 0 1 second_text ∷ Empty ∷ Media 1 0 third_text ∷ [];
+}
 
 -- what the packets carry
 abbrev first_part : CarriedPart
 first_part = record {
   text = first_text;
   packet = record {
-      marker = false; pt = 96; seq = 65535; ts = 0; ssrc = 10; csrc = []; extension = None; payload =
-      16 ∷ 0 ∷ 170 ∷ []; padding = 0 };
+    marker = false;
+    pt = 96;
+    seq = 65535;
+    ts = 0;
+    ssrc = 10;
+    csrc = [];
+    extension = None;
+    payload = 16 ∷ 0 ∷ 170 ∷ [];
+    padding = 0;
+  };
   part = record { start = Yes; key = true; layers = None; body = 0 ∷ 170 ∷ [] };
 }
 
@@ -65,8 +75,16 @@ abbrev second_part : CarriedPart
 second_part = record {
   text = second_text;
   packet = record {
-      marker = true; pt = 96; seq = 0; ts = 0; ssrc = 10; csrc = []; extension = None; payload =
-      0 ∷ 187 ∷ []; padding = 0 };
+    marker = true;
+    pt = 96;
+    seq = 0;
+    ts = 0;
+    ssrc = 10;
+    csrc = [];
+    extension = None;
+    payload = 0 ∷ 187 ∷ [];
+    padding = 0;
+  };
   part = record { start = No; key = false; layers = None; body = 187 ∷ [] };
 }
 
@@ -74,8 +92,16 @@ abbrev third_part : CarriedPart
 third_part = record {
   text = third_text;
   packet = record {
-      marker = true; pt = 96; seq = 2; ts = 9; ssrc = 10; csrc = []; extension = None; payload =
-      16 ∷ 1 ∷ 204 ∷ []; padding = 0 };
+    marker = true;
+    pt = 96;
+    seq = 2;
+    ts = 9;
+    ssrc = 10;
+    csrc = [];
+    extension = None;
+    payload = 16 ∷ 1 ∷ 204 ∷ [];
+    padding = 0;
+  };
   part = record { start = Yes; key = false; layers = None; body = 1 ∷ 204 ∷ [] };
 }
 
@@ -92,8 +118,17 @@ first_is : IsPart settings vp8 sender 0 first_frame 2 0 0 first_part
 first_is = record {
   sent = refl;
   media = record {
-      size = omega arith; below = are_octets first_text refl; reads = refl; no_padding = refl; number = refl; type =
-      refl; source = refl; payload = λ e. cc; part_reads = refl; layers = refl };
+    size = omega arith;
+    below = are_octets first_text refl;
+    reads = refl;
+    no_padding = refl;
+    number = refl;
+    type = refl;
+    source = refl;
+    payload = λ e. cc;
+    part_reads = refl;
+    layers = refl;
+  };
   timestamp = refl;
   marker = (λ e. cc, λ e. absurd (omega arith));
   start = refl;
@@ -103,8 +138,17 @@ second_is : IsPart settings vp8 sender 0 first_frame 2 1 1 second_part
 second_is = record {
   sent = refl;
   media = record {
-      size = omega arith; below = are_octets second_text refl; reads = refl; no_padding = refl; number = refl; type =
-      refl; source = refl; payload = λ e. cc; part_reads = refl; layers = refl };
+    size = omega arith;
+    below = are_octets second_text refl;
+    reads = refl;
+    no_padding = refl;
+    number = refl;
+    type = refl;
+    source = refl;
+    payload = λ e. cc;
+    part_reads = refl;
+    layers = refl;
+  };
   timestamp = refl;
   marker = (λ e. refl, λ e. refl);
   start = λ same. omega arith;
@@ -114,8 +158,17 @@ third_is : IsPart settings vp8 sender 1 second_frame 1 0 3 third_part
 third_is = record {
   sent = refl;
   media = record {
-      size = omega arith; below = are_octets third_text refl; reads = refl; no_padding = refl; number = refl; type =
-      refl; source = refl; payload = λ e. cc; part_reads = refl; layers = refl };
+    size = omega arith;
+    below = are_octets third_text refl;
+    reads = refl;
+    no_padding = refl;
+    number = refl;
+    type = refl;
+    source = refl;
+    payload = λ e. cc;
+    part_reads = refl;
+    layers = refl;
+  };
   timestamp = refl;
   marker = (λ e. refl, λ e. refl);
   start = refl;
@@ -215,8 +268,16 @@ third_is_padded = record {
   size = omega arith;
   below = are_octets third_padded refl;
   packet = record {
-      marker = true; pt = 96; seq = 2; ts = 9; ssrc = 10; csrc = []; extension = None; payload =
-      16 ∷ 1 ∷ 204 ∷ []; padding = 3 };
+    marker = true;
+    pt = 96;
+    seq = 2;
+    ts = 9;
+    ssrc = 10;
+    csrc = [];
+    extension = None;
+    payload = 16 ∷ 1 ∷ 204 ∷ [];
+    padding = 3;
+  };
   reads = refl;
   spelled = refl;
 }
@@ -231,7 +292,16 @@ empty_is = record {
   size = omega arith;
   below = are_octets empty_padded refl;
   packet = record {
-      marker = false; pt = 96; seq = 1; ts = 5; ssrc = 10; csrc = []; extension = None; payload = []; padding = 4 };
+    marker = false;
+    pt = 96;
+    seq = 1;
+    ts = 5;
+    ssrc = 10;
+    csrc = [];
+    extension = None;
+    payload = [];
+    padding = 4;
+  };
   reads = refl;
   number = refl;
   type = refl;

@@ -33,11 +33,15 @@ none-refusal ((k, event) ∷ events) = none-refusal events
 outcome-is : (r : Reading) → inspected_reading r ≡ reading_outcome inspecting r
 outcome-is r =
     ap (λ o. record {
-    status = status_of (last_line o r.bad); text = inspections r.events; last =
-    error_text (last_line o r.bad) }) (none-refusal r.events)
+      status = status_of (last_line o r.bad);
+      text = inspections r.events;
+      last = error_text (last_line o r.bad);
+    }) (none-refusal r.events)
     ∙ ap (λ t. record {
-    status = status_of (last_line (first_refusal inspecting r.events) r.bad); text = t; last =
-    error_text (last_line (first_refusal inspecting r.events) r.bad) })
+      status = status_of (last_line (first_refusal inspecting r.events) r.bad);
+      text = t;
+      last = error_text (last_line (first_refusal inspecting r.events) r.bad);
+    })
     (ap inspections (settings_or_reason-are r.events) ∙ texts-are [] (accepted_events inspecting r.events))
 
 -- the first line is right

@@ -78,12 +78,15 @@ module _ (job : Answering) where
       }
   reading_outcome-front events rest none =
       ap (λ t. record {
-      status = status_of (last_line t rest.bad); text =
-      texts job [] (accepted_events job (events ++ rest.events)); last =
-      error_text (last_line t rest.bad) }) (refused-more events rest.events none)
+        status = status_of (last_line t rest.bad);
+        text = texts job [] (accepted_events job (events ++ rest.events));
+        last = error_text (last_line t rest.bad);
+      }) (refused-more events rest.events none)
       ∙ ap (λ t. record {
-      status = status_of (last_line (first_refusal job rest.events) rest.bad); text = t; last =
-      error_text (last_line (first_refusal job rest.events) rest.bad) })
+        status = status_of (last_line (first_refusal job rest.events) rest.bad);
+        text = t;
+        last = error_text (last_line (first_refusal job rest.events) rest.bad);
+      })
       (ap (texts job []) (accepted-more events rest.events none)
       ∙ texts-more [] events (accepted_events job rest.events))
 
@@ -102,7 +105,10 @@ module _ (job : Answering) where
   pub reading_outcome-bad : (events : List (ℕ × Event)) (bad : ℕ × LineReason) → first_refusal job events ≡ None
       → reading_outcome job (record { events = events; bad = Some bad })
       ≡ record {
-      status = statuses.BadCapture; text = texts job [] events; last = error_line bad.0 (errors.Line bad.1) }
+        status = statuses.BadCapture;
+        text = texts job [] events;
+        last = error_line bad.0 (errors.Line bad.1);
+      }
   reading_outcome-bad events bad none =
       ap (λ e. reading_outcome job (record { events = e; bad = Some bad })) (sym (append-nil events))
       ∙ reading_outcome-front events (bad_at bad) none

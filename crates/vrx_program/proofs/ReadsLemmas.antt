@@ -101,7 +101,7 @@ module _ (lines_join : LinesJoin) (readings_join : ReadingsJoin) (max : ℕ) (be
         bad = sound_now;
       },
       append_assoc r.gone old.kept p.read ∙ ap (λ o. r.gone ++ o) p.octets
-      ∙ sym (append_assoc r.gone p.gone new.kept),
+          ∙ sym (append_assoc r.gone p.gone new.kept),
     ) where
       behind_is : reading max (2 + length r.others) (0 + length events) rest ≡ sound more
       behind_is = ap (λ k. reading max k (0 + length events) rest) (omega (arith, r.given))
@@ -134,7 +134,7 @@ module _ (lines_join : LinesJoin) (readings_join : ReadingsJoin) (max : ℕ) (be
         bad = sound_now;
       },
       ap (λ k. (r.gone ++ k) ++ p.read) kept ∙ ap (λ o. (r.gone ++ []) ++ o) stays.1 ∙ append-nil (r.gone ++ [])
-      ∙ ap (λ k. r.gone ++ k) (sym nothing.1),
+          ∙ ap (λ k. r.gone ++ k) (sym nothing.1),
     ) where
       stays : (new.ended ≡ true) × (p.read ≡ [])
       stays = p.stays ended
@@ -182,10 +182,12 @@ module _ (lines_join : LinesJoin) (readings_join : ReadingsJoin) (max : ℕ) (be
       says reader octets ≡ sound []
       → (lines_of (r.gone ++ octets) ≡ first ∷ (r.others ++ lines_of octets))
       × (reading max 2 0 (r.others ++ lines_of octets) ≡ sound events)
-  reads-quiet reader left events r octets whole said =
-      (lines_join r.gone octets whole
-      ∙ ap (λ l. l ++ lines_of octets) r.lines, readings_join max 2 0 r.others (lines_of octets) events r.gives
-      ∙ behind-none events _ [] behind_is ∙ ap sound (append-nil events)) where
+  reads-quiet reader left events r octets whole said = (
+    lines_join r.gone octets whole
+        ∙ ap (λ l. l ++ lines_of octets) r.lines,
+    readings_join max 2 0 r.others (lines_of octets) events r.gives
+        ∙ behind-none events _ [] behind_is ∙ ap sound (append-nil events),
+  ) where
     behind_is : reading max (2 + length r.others) (0 + length events) (lines_of octets) ≡ sound []
     behind_is = ap (λ k. reading max k (0 + length events) (lines_of octets)) (omega (arith, r.given))
         ∙ ap (λ n. reading max (reader.given + 1) n (lines_of octets)) (omega (arith, r.count))
@@ -200,15 +202,15 @@ module _ (lines_join : LinesJoin) (readings_join : ReadingsJoin) (max : ℕ) (be
       × (left ≡ Some [])
   reads-end reader left events r kept ended capture told =
       (r.others, ap lines_of all ∙ r.lines, r.gives, left_is.1 ∙ ap Some none) where
-    left_is : (rest : List ℕ) × (left ≡ Some rest) × (capture ≡ (r.gone ++ reader.kept) ++ rest)
-    left_is = ahead-told (r.gone ++ reader.kept) capture left (sym told ∙ r.source)
+        left_is : (rest : List ℕ) × (left ≡ Some rest) × (capture ≡ (r.gone ++ reader.kept) ++ rest)
+        left_is = ahead-told (r.gone ++ reader.kept) capture left (sym told ∙ r.source)
 
-    none : left_is.0 ≡ []
-    none = subst IsSpent left_is.1 (r.end ended)
+        none : left_is.0 ≡ []
+        none = subst IsSpent left_is.1 (r.end ended)
 
-    all : capture ≡ r.gone
-    all = left_is.2 ∙ ap (λ x. (r.gone ++ reader.kept) ++ x) none ∙ append-nil (r.gone ++ reader.kept)
-        ∙ ap (λ k. r.gone ++ k) kept ∙ append-nil r.gone
+        all : capture ≡ r.gone
+        all = left_is.2 ∙ ap (λ x. (r.gone ++ reader.kept) ++ x) none ∙ append-nil (r.gone ++ reader.kept)
+            ∙ ap (λ k. r.gone ++ k) kept ∙ append-nil r.gone
 
   -- so far, what was read is the front of the capture: the rest gives what follows
   pub reads-front : (reader : Reader) (left : Option (List ℕ)) (events : List (ℕ × Event))
@@ -229,7 +231,7 @@ module _ (lines_join : LinesJoin) (readings_join : ReadingsJoin) (max : ℕ) (be
     by_whole (inl whole) = (
       r.others ++ more,
       ap lines_of (left_is.2 ∙ append_assoc r.gone reader.kept left_is.0)
-      ∙ lines_join r.gone (reader.kept ++ left_is.0) whole ∙ ap (λ l. l ++ more) r.lines,
+          ∙ lines_join r.gone (reader.kept ++ left_is.0) whole ∙ ap (λ l. l ++ more) r.lines,
       reading max (2 + length r.others) (0 + length events) more,
       readings_join max 2 0 r.others more events r.gives,
     )
@@ -268,8 +270,12 @@ module _ (lines_join : LinesJoin) (readings_join : ReadingsJoin) (max : ℕ) (be
     by_whole : AreWhole r.gone ⊎ ((old.ended ≡ true) × (old.kept ≡ [])) →
         (others : List (List ℕ)) × (lines_of capture ≡ first ∷ others)
         × (reading max 2 0 others ≡ record { events = events; bad = Some bad })
-    by_whole (inl whole) = (r.others ++ lines_of octets, ap lines_of capture_is ∙ lines_join r.gone octets whole
-        ∙ ap (λ l. l ++ lines_of octets) r.lines, gives) where
+    by_whole (inl whole) = (
+      r.others ++ lines_of octets,
+      ap lines_of capture_is ∙ lines_join r.gone octets whole
+          ∙ ap (λ l. l ++ lines_of octets) r.lines,
+      gives,
+    ) where
       behind_is : reading max (2 + length r.others) (0 + length events) (lines_of octets) ≡ bad_at bad
       behind_is = ap (λ k. reading max k (0 + length events) (lines_of octets)) (omega (arith, r.given))
           ∙ ap (λ n. reading max (old.given + 1) n (lines_of octets)) (omega (arith, r.count))

@@ -63,16 +63,21 @@ module _ (settings : Settings) (codec : Meaning) where
 
   outcome-is : (r : Reading) →
       record {
-      status = status_of (first_refused (first_tick r.events) r.bad); text =
-      transcript settings codec [] (before_tick r.events); last =
-      error_text (first_refused (first_tick r.events) r.bad) } ≡ reading_outcome (replaying settings codec) r
+        status = status_of (first_refused (first_tick r.events) r.bad);
+        text = transcript settings codec [] (before_tick r.events);
+        last = error_text (first_refused (first_tick r.events) r.bad);
+      } ≡ reading_outcome (replaying settings codec) r
   outcome-is r =
       ap (λ b. record {
-      status = status_of b; text = transcript settings codec [] (before_tick r.events); last =
-      error_text b }) (last-is r.events r.bad)
+        status = status_of b;
+        text = transcript settings codec [] (before_tick r.events);
+        last = error_text b;
+      }) (last-is r.events r.bad)
       ∙ ap (λ t. record {
-      status = status_of (last_line (first_refusal (replaying settings codec) r.events) r.bad); text = t; last =
-      error_text (last_line (first_refusal (replaying settings codec) r.events) r.bad) })
+        status = status_of (last_line (first_refusal (replaying settings codec) r.events) r.bad);
+        text = t;
+        last = error_text (last_line (first_refusal (replaying settings codec) r.events) r.bad);
+      })
       (ap (transcript settings codec []) (settings_or_reason-are r.events)
       ∙ texts-are [] (accepted_events (replaying settings codec) r.events))
 

@@ -89,8 +89,10 @@ keyframe = record { bytes = 0 ∷ 170 ∷ 187 ∷ 204 ∷ []; key = true; ts = 0
 
 abbrev sender : Sender
 sender = record {
-    first_wire = 1; frames = keyframe ∷ []; packets =
-    Media 0 0 first_text ∷ Media 0 1 second_text ∷ Media 0 2 third_text ∷ [] }
+  first_wire = 1;
+  frames = keyframe ∷ [];
+  packets = Media 0 0 first_text ∷ Media 0 1 second_text ∷ Media 0 2 third_text ∷ [];
+}
 
 abbrev settings : Settings
 settings = record { media_ssrc = 10; media_type = 96; red = None; rtx = None; from_ssrc = 11; interval = 100 }
@@ -100,8 +102,16 @@ abbrev first_part : CarriedPart
 first_part = record {
   text = first_text;
   packet = record {
-      marker = false; pt = 96; seq = 1; ts = 0; ssrc = 10; csrc = []; extension = None; payload =
-      16 ∷ 0 ∷ 170 ∷ []; padding = 0 };
+    marker = false;
+    pt = 96;
+    seq = 1;
+    ts = 0;
+    ssrc = 10;
+    csrc = [];
+    extension = None;
+    payload = 16 ∷ 0 ∷ 170 ∷ [];
+    padding = 0;
+  };
   part = record { start = Yes; key = true; layers = None; body = 0 ∷ 170 ∷ [] };
 }
 
@@ -109,8 +119,16 @@ abbrev second_part : CarriedPart
 second_part = record {
   text = second_text;
   packet = record {
-      marker = false; pt = 96; seq = 2; ts = 0; ssrc = 10; csrc = []; extension = None; payload =
-      0 ∷ 187 ∷ []; padding = 0 };
+    marker = false;
+    pt = 96;
+    seq = 2;
+    ts = 0;
+    ssrc = 10;
+    csrc = [];
+    extension = None;
+    payload = 0 ∷ 187 ∷ [];
+    padding = 0;
+  };
   part = record { start = No; key = false; layers = None; body = 187 ∷ [] };
 }
 
@@ -118,8 +136,16 @@ abbrev third_part : CarriedPart
 third_part = record {
   text = third_text;
   packet = record {
-      marker = true; pt = 96; seq = 3; ts = 0; ssrc = 10; csrc = []; extension = None; payload =
-      0 ∷ 204 ∷ []; padding = 0 };
+    marker = true;
+    pt = 96;
+    seq = 3;
+    ts = 0;
+    ssrc = 10;
+    csrc = [];
+    extension = None;
+    payload = 0 ∷ 204 ∷ [];
+    padding = 0;
+  };
   part = record { start = No; key = false; layers = None; body = 204 ∷ [] };
 }
 
@@ -137,8 +163,17 @@ first_is : IsPart settings vp8 sender 0 keyframe 3 0 0 first_part
 first_is = record {
   sent = refl;
   media = record {
-      size = omega arith; below = are_octets first_text refl; reads = refl; no_padding = refl; number = refl; type =
-      refl; source = refl; payload = λ e. cc; part_reads = refl; layers = refl };
+    size = omega arith;
+    below = are_octets first_text refl;
+    reads = refl;
+    no_padding = refl;
+    number = refl;
+    type = refl;
+    source = refl;
+    payload = λ e. cc;
+    part_reads = refl;
+    layers = refl;
+  };
   timestamp = refl;
   marker = (λ e. cc, λ e. absurd (omega arith));
   start = refl;
@@ -148,8 +183,17 @@ second_is : IsPart settings vp8 sender 0 keyframe 3 1 1 second_part
 second_is = record {
   sent = refl;
   media = record {
-      size = omega arith; below = are_octets second_text refl; reads = refl; no_padding = refl; number = refl; type =
-      refl; source = refl; payload = λ e. cc; part_reads = refl; layers = refl };
+    size = omega arith;
+    below = are_octets second_text refl;
+    reads = refl;
+    no_padding = refl;
+    number = refl;
+    type = refl;
+    source = refl;
+    payload = λ e. cc;
+    part_reads = refl;
+    layers = refl;
+  };
   timestamp = refl;
   marker = (λ e. cc, λ e. absurd (omega arith));
   start = λ same. omega arith;
@@ -159,8 +203,17 @@ third_is : IsPart settings vp8 sender 0 keyframe 3 2 2 third_part
 third_is = record {
   sent = refl;
   media = record {
-      size = omega arith; below = are_octets third_text refl; reads = refl; no_padding = refl; number = refl; type =
-      refl; source = refl; payload = λ e. cc; part_reads = refl; layers = refl };
+    size = omega arith;
+    below = are_octets third_text refl;
+    reads = refl;
+    no_padding = refl;
+    number = refl;
+    type = refl;
+    source = refl;
+    payload = λ e. cc;
+    part_reads = refl;
+    layers = refl;
+  };
   timestamp = refl;
   marker = (λ e. refl, λ e. refl);
   start = λ same. omega arith;
@@ -192,8 +245,10 @@ sender-honest = record {
 
 pub parts-honest : IsHonestCapture parts_capture sender (FromSender 2 ∷ FromSender 0 ∷ FromSender 1 ∷ Elsewhere ∷ [])
 unfolding text_on_literals settings_of snapshots packets_taken
-parts-honest = (sender-honest,
-    ((inl refl, tt), ((inl refl, (omega arith, omega arith)), ((inl refl, (omega arith, omega arith)), (tt, tt)))))
+parts-honest = (
+  sender-honest,
+  ((inl refl, tt), ((inl refl, (omega arith, omega arith)), ((inl refl, (omega arith, omega arith)), (tt, tt)))),
+)
 
 -- an inspection: a datagram, a tick, a pull and a bad line under settings that a replay doesn't take
 abbrev inspected_capture : List ℕ

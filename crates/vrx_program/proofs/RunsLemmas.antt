@@ -100,8 +100,10 @@ module _ {S : Type 0} (outcome : List ℕ → Outcome) (is_read : S → List ℕ
   over-nothing source sink = record {
     ends = over (left source);
     in_step = record {
-        read = []; source = ahead-none (left source); reads =
-        reads_nothing is_read (IsWritten outcome sink sink) [] source };
+      read = [];
+      source = ahead-none (left source);
+      reads = reads_nothing is_read (IsWritten outcome sink sink) [] source;
+    };
   } where
     over : (o : Option (List ℕ)) → EndsOver outcome statuses.NoMemory o sink (left source) sink
     over None = tt
@@ -116,9 +118,12 @@ module _ {S : Type 0} (outcome : List ℕ → Outcome) (is_read : S → List ℕ
         ReadsInStep outcome is_read left start now sink last
     head-step last more is =
         record {
-        read = p.read; source = p.source; reads =
-        reads_weaker is_read IsOpenLine (IsWritten outcome sink last) [] start now p.read
-        (part-written outcome heads sink last more is) reads }
+          read = p.read;
+          source = p.source;
+          reads =
+              reads_weaker is_read IsOpenLine (IsWritten outcome sink last) [] start now p.read
+              (part-written outcome heads sink last more is) reads;
+        }
 
     -- there is none that may be taken
     pub over-none : (status : Status) (last : Option (List ℕ)) → IsHead (opening most_events) new p.read p.gone None →
@@ -126,10 +131,11 @@ module _ {S : Type 0} (outcome : List ℕ → Outcome) (is_read : S → List ℕ
         IsOver outcome is_read left start now sink last status
     over-none status last head ends = let grown =
         grown-badly status (error_line 1 errors.Settings) sink last ends in record {
-      ends =
-          ends-none outcome heads (left start) sink new (left now) p head.0 last status (head.1 (omega arith)) ends;
-      in_step = head-step last grown.0 grown.1;
-    }
+          ends =
+              ends-none outcome heads (left start) sink new (left now) p head.0 last status
+              (head.1 (omega arith)) ends;
+          in_step = head-step last grown.0 grown.1;
+        }
 
     -- its read failed
     pub over-unread : p.gone ≡ [] → HasNoFeed new.kept → length new.kept ≤ longest_line →
@@ -154,10 +160,12 @@ module _ {S : Type 0} (outcome : List ℕ → Outcome) (is_read : S → List ℕ
           IsOver outcome is_read left start now sink last status
       over-refused reason status last refuses ends = let grown =
           grown-badly status (error_line 1 reason) sink last ends in record {
-        ends = ends-refusal outcome lines_join readings_join (left start) sink line new (left now) last reason status
-            (head-read (left start) new (left now) line lines_join readings_join p head events bad).0 refuses ends;
-        in_step = head-step last grown.0 grown.1;
-      }
+            ends =
+                ends-refusal outcome lines_join readings_join (left start) sink line new (left now) last reason status
+                (head-read (left start) new (left now) line lines_join readings_join p head events bad).0 refuses
+                ends;
+            in_step = head-step last grown.0 grown.1;
+          }
 
       -- it begins the run
       pub runs-first : (job : Answering) (answers : List Event → Type 0) → Begins outcome line job → answers [] →
@@ -165,16 +173,16 @@ module _ {S : Type 0} (outcome : List ℕ → Outcome) (is_read : S → List ℕ
       unfolding texts
       runs-first job answers begins history = let r =
           head-read (left start) new (left now) line lines_join readings_join p head events bad in record {
-        first = line;
-        begins = begins;
-        events = [];
-        read = r.0;
-        accepted = refl;
-        history = history;
-        wrote = sym (with_more-none sink);
-        reads = subst (λ octets. ReadsSo is_read (IsWritten outcome sink sink) [] start now octets) r.1
-            (head-step sink [] (sym (with_more-none sink))).reads;
-      }
+            first = line;
+            begins = begins;
+            events = [];
+            read = r.0;
+            accepted = refl;
+            history = history;
+            wrote = sym (with_more-none sink);
+            reads = subst (λ octets. ReadsSo is_read (IsWritten outcome sink sink) [] start now octets) r.1
+                (head-step sink [] (sym (with_more-none sink))).reads;
+          }
 
   -- ---- in the middle: a call of the reader
 
@@ -240,20 +248,20 @@ module _ {S : Type 0} (outcome : List ℕ → Outcome) (is_read : S → List ℕ
     pub over-memory : IsOver outcome is_read left start then sink taken statuses.NoMemory
     over-memory =
         record { ends = over (left start) refl; in_step = in-step taken [] (sym (with_more-none taken)) } where
-      over : (o : Option (List ℕ)) → left start ≡ o → EndsOver outcome statuses.NoMemory o sink (left then) taken
-      over None is = tt
-      over (Some capture) is = let f =
-          reads-front lines_join readings_join most_events (left start) p.first old
-          (left now) p.events p.read capture is in
-          let told : List ℕ = texts job [] p.events in
-          let more : List ℕ = texts job (history_after [] p.events) (accepted_events job f.2.events) in
-          let last_text : List ℕ = error_text (last_line (first_refusal job f.2.events) f.2.bad) in
-          let text : text_of_outcome (outcome capture) ≡ told ++ (more ++ last_text) =
+          over : (o : Option (List ℕ)) → left start ≡ o → EndsOver outcome statuses.NoMemory o sink (left then) taken
+          over None is = tt
+          over (Some capture) is = let f =
+              reads-front lines_join readings_join most_events (left start) p.first old
+              (left now) p.events p.read capture is in
+              let told : List ℕ = texts job [] p.events in
+              let more : List ℕ = texts job (history_after [] p.events) (accepted_events job f.2.events) in
+              let last_text : List ℕ = error_text (last_line (first_refusal job f.2.events) f.2.bad) in
+              let text : text_of_outcome (outcome capture) ≡ told ++ (more ++ last_text) =
               ap text_of_outcome (p.begins capture f.0 f.1 ∙ ap (reading_outcome job) f.3
               ∙ reading_outcome-front job p.events f.2 p.accepted) ∙ append_assoc told more last_text in
-          subst (TookPrefix sink taken) (sym text)
-          (took-more sink taken told (more ++ last_text)
-          (length told, p.wrote ∙ ap (with_more sink) (sym (take-all told))))
+              subst (TookPrefix sink taken) (sym text)
+              (took-more sink taken told (more ++ last_text)
+              (length told, p.wrote ∙ ap (with_more sink) (sym (take-all told))))
 
     -- the lines passed over say nothing
     module _ (said : says old passes.gone ≡ sound []) (count : new.events ≡ old.events) (bad : new.bad ≡ None) where
@@ -270,42 +278,48 @@ module _ {S : Type 0} (outcome : List ℕ → Outcome) (is_read : S → List ℕ
           IsOver outcome is_read left start then sink taken statuses.ReadFault
       over-fault no_feed going short =
           record { ends = over (left start) refl; in_step = in-step taken [] (sym (with_more-none taken)) } where
-        r : HasRead most_events (left start) p.first new (left then) p.events
-        r = quiet-now
+            r : HasRead most_events (left start) p.first new (left then) p.events
+            r = quiet-now
 
-        gives : outcome r.gone ≡ record { status = statuses.Done; text = texts job [] p.events; last = [] }
-        gives = p.begins r.gone r.others r.lines ∙ ap (reading_outcome job) r.gives
-            ∙ reading_outcome-all job p.events p.accepted
+            gives : outcome r.gone ≡ record { status = statuses.Done; text = texts job [] p.events; last = [] }
+            gives = p.begins r.gone r.others r.lines ∙ ap (reading_outcome job) r.gives
+                ∙ reading_outcome-all job p.events p.accepted
 
-        over : (o : Option (List ℕ)) → left start ≡ o → EndsOver outcome statuses.ReadFault o sink (left then) taken
-        over None is = tt
-        over (Some capture) is = record {
-          lines = r.gone;
-          part = new.kept;
-          read = sym is ∙ r.source;
-          whole =
-              reads-fault lines_join readings_join most_events (left start) p.first new (left then) p.events r going;
-          no_feed = no_feed;
-          right = inr (ap (λ (o : Outcome). o.status) gives);
-          short = short;
-          took = p.wrote ∙ ap (with_more sink) (sym (ap (λ (o : Outcome). o.text) gives));
-        }
+            over : (o : Option (List ℕ)) → left start ≡ o →
+                EndsOver outcome statuses.ReadFault o sink (left then) taken
+            over None is = tt
+            over (Some capture) is = record {
+              lines = r.gone;
+              part = new.kept;
+              read = sym is ∙ r.source;
+              whole =
+                  reads-fault lines_join readings_join most_events (left start) p.first new
+                  (left then) p.events r going;
+              no_feed = no_feed;
+              right = inr (ap (λ (o : Outcome). o.status) gives);
+              short = short;
+              took = p.wrote ∙ ap (with_more sink) (sym (ap (λ (o : Outcome). o.text) gives));
+            }
 
       -- the end: the sink took the text of the capture
       pub over-done : new.kept ≡ [] → new.ended ≡ true →
           IsOver outcome is_read left start then sink taken statuses.Done
       over-done kept ended =
           record { ends = over (left start) refl; in_step = in-step taken [] (sym (with_more-none taken)) } where
-        over : (o : Option (List ℕ)) → left start ≡ o → EndsOver outcome statuses.Done o sink (left then) taken
-        over None is = tt
-        over (Some capture) is = let all =
-            reads-end lines_join readings_join most_events (left start) p.first new
-            (left then) p.events quiet-now kept ended capture is in
-            let gives : outcome capture ≡ record { status = statuses.Done; text = texts job [] p.events; last = [] } =
+            over : (o : Option (List ℕ)) → left start ≡ o → EndsOver outcome statuses.Done o sink (left then) taken
+            over None is = tt
+            over (Some capture) is = let all =
+                reads-end lines_join readings_join most_events (left start) p.first new
+                (left then) p.events quiet-now kept ended capture is in
+                let gives : outcome capture
+                ≡ record { status = statuses.Done; text = texts job [] p.events; last = [] } =
                 p.begins capture all.0 all.1 ∙ ap (reading_outcome job) all.2
-                ∙ reading_outcome-all job p.events p.accepted in
-            (ap (λ (o : Outcome). o.status) gives, p.wrote
-            ∙ ap (with_more sink) (sym (ap text_of_outcome gives ∙ append-nil (texts job [] p.events))), all.3)
+                ∙ reading_outcome-all job p.events p.accepted in (
+                  ap (λ (o : Outcome). o.status) gives,
+                  p.wrote
+                      ∙ ap (with_more sink) (sym (ap text_of_outcome gives ∙ append-nil (texts job [] p.events))),
+                  all.3,
+                )
 
     -- a bad line, after what was read
     pub over-bad : (bad : ℕ × LineReason) (status : Status) (last : Option (List ℕ)) →
@@ -315,19 +329,22 @@ module _ {S : Type 0} (outcome : List ℕ → Outcome) (is_read : S → List ℕ
     over-bad bad status last all ends = let grown =
         grown-badly status (error_line bad.0 (errors.Line bad.1)) taken last ends in
         record { ends = over (left start) refl; in_step = in-step last grown.0 grown.1 } where
-      over : (o : Option (List ℕ)) → left start ≡ o → EndsOver outcome status o sink (left then) last
-      over None is = tt
-      over (Some capture) is = let b =
-          reads-bad lines_join readings_join most_events (left start) p.first old new (left now)
-          (left then) p.events bad p.read passes all capture is in
-          let gives : outcome capture
+          over : (o : Option (List ℕ)) → left start ≡ o → EndsOver outcome status o sink (left then) last
+          over None is = tt
+          over (Some capture) is = let b =
+              reads-bad lines_join readings_join most_events (left start) p.first old new (left now)
+              (left then) p.events bad p.read passes all capture is in
+              let gives : outcome capture
               ≡ record {
-              status = statuses.BadCapture; text = texts job [] p.events; last =
-              error_line bad.0 (errors.Line bad.1) } = p.begins capture b.0 b.1 ∙ ap (reading_outcome job) b.2
+                status = statuses.BadCapture;
+                text = texts job [] p.events;
+                last = error_line bad.0 (errors.Line bad.1);
+              } = p.begins capture b.0 b.1 ∙ ap (reading_outcome job) b.2
               ∙ reading_outcome-bad job p.events bad p.accepted in
-          ends-badly status outcome capture (texts job [] p.events)
-          (error_line bad.0 (errors.Line bad.1)) sink taken last (left then) (ap (λ (o : Outcome). o.status) gives)
-          (ap text_of_outcome gives) p.wrote ends
+              ends-badly status outcome capture (texts job [] p.events)
+              (error_line bad.0 (errors.Line bad.1)) sink taken last (left then)
+              (ap (λ (o : Outcome). o.status) gives)
+              (ap text_of_outcome gives) p.wrote ends
 
     -- an event
     module _ (k : ℕ) (event : Event) (next : IsNext old new passes.read passes.gone (Ok (lines.Event k event))) where
@@ -343,17 +360,17 @@ module _ {S : Type 0} (outcome : List ℕ → Outcome) (is_read : S → List ℕ
       over-event reason status last refuses ends = let grown =
           grown-badly status (error_line k reason) taken last ends in
           record { ends = over (left start) refl; in_step = in-step last grown.0 grown.1 } where
-        over : (o : Option (List ℕ)) → left start ≡ o → EndsOver outcome status o sink (left then) last
-        over None is = tt
-        over (Some capture) is =
-            let f = reads-front lines_join readings_join most_events (left start) p.first new (left then)
+            over : (o : Option (List ℕ)) → left start ≡ o → EndsOver outcome status o sink (left then) last
+            over None is = tt
+            over (Some capture) is =
+                let f = reads-front lines_join readings_join most_events (left start) p.first new (left then)
                 (p.events ++ (k, event) ∷ []) event-read.0 capture is in
-            let gives : outcome capture
+                let gives : outcome capture
                 ≡ record { status = statuses.BadCapture; text = texts job [] p.events; last = error_line k reason } =
                 p.begins capture f.0 f.1 ∙ ap (reading_outcome job) f.3
                 ∙ reading_outcome-refused job p.events k event reason f.2 p.accepted refuses in
-            ends-badly status outcome capture (texts job [] p.events) (error_line k reason) sink taken last
-            (left then) (ap (λ (o : Outcome). o.status) gives) (ap text_of_outcome gives) p.wrote ends
+                ends-badly status outcome capture (texts job [] p.events) (error_line k reason) sink taken last
+                (left then) (ap (λ (o : Outcome). o.status) gives) (ap text_of_outcome gives) p.wrote ends
 
       -- the run ends in its text
       pub over-amid : (status : Status) (last : Option (List ℕ)) → job.refuses event ≡ None →
@@ -362,24 +379,24 @@ module _ {S : Type 0} (outcome : List ℕ → Outcome) (is_read : S → List ℕ
       over-amid status last accepts ends = let grown =
           grown-amid status (job.text (history_after [] p.events) k event) taken last ends in
           record { ends = over (left start) refl; in_step = in-step last grown.0 grown.1 } where
-        over : (o : Option (List ℕ)) → left start ≡ o → EndsOver outcome status o sink (left then) last
-        over None is = tt
-        over (Some capture) is =
-            let all : List (ℕ × Event) = p.events ++ (k, event) ∷ [] in
-            let f = reads-front lines_join readings_join most_events (left start) p.first new
+            over : (o : Option (List ℕ)) → left start ≡ o → EndsOver outcome status o sink (left then) last
+            over None is = tt
+            over (Some capture) is =
+                let all : List (ℕ × Event) = p.events ++ (k, event) ∷ [] in
+                let f = reads-front lines_join readings_join most_events (left start) p.first new
                 (left then) all event-read.0 capture is in
-            let told : List ℕ = texts job [] p.events in
-            let text : List ℕ = job.text (history_after [] p.events) k event in
-            let more : List ℕ = texts job (history_after [] all) (accepted_events job f.2.events) in
-            let last_text : List ℕ = error_text (last_line (first_refusal job f.2.events) f.2.bad) in
-            let whole : text_of_outcome (outcome capture) ≡ told ++ (text ++ (more ++ last_text)) =
-            ap text_of_outcome (p.begins capture f.0 f.1 ∙ ap (reading_outcome job) f.3
-            ∙ reading_outcome-front job all f.2 (refused-next job p.events k event p.accepted accepts))
-            ∙ append_assoc (texts job [] all) more last_text
-            ∙ ap (λ t. t ++ (more ++ last_text)) (texts-next job p.events k event)
-            ∙ append_assoc told text (more ++ last_text) in
-            ends-amid status outcome capture told text (more ++ last_text) sink taken last
-            (left then) whole p.wrote ends
+                let told : List ℕ = texts job [] p.events in
+                let text : List ℕ = job.text (history_after [] p.events) k event in
+                let more : List ℕ = texts job (history_after [] all) (accepted_events job f.2.events) in
+                let last_text : List ℕ = error_text (last_line (first_refusal job f.2.events) f.2.bad) in
+                let whole : text_of_outcome (outcome capture) ≡ told ++ (text ++ (more ++ last_text)) =
+                ap text_of_outcome (p.begins capture f.0 f.1 ∙ ap (reading_outcome job) f.3
+                ∙ reading_outcome-front job all f.2 (refused-next job p.events k event p.accepted accepts))
+                ∙ append_assoc (texts job [] all) more last_text
+                ∙ ap (λ t. t ++ (more ++ last_text)) (texts-next job p.events k event)
+                ∙ append_assoc told text (more ++ last_text) in
+                ends-amid status outcome capture told text (more ++ last_text) sink taken last
+                (left then) whole p.wrote ends
 
       -- the run goes on
       pub runs-on : (later : List Event → Type 0) (last : Option (List ℕ)) → job.refuses event ≡ None →

@@ -36,9 +36,11 @@ took-more before after text more (n, took) =
 -- behind a text that was taken whole, a part of the next is a part of both
 pub took-later : (before mid after : Option (List ℕ)) (text next : List ℕ) → mid ≡ with_more before text →
     TookPrefix mid after next → TookPrefix before after (text ++ next)
-took-later before mid after text next wrote (n, took) =
-    (length text + n, took ∙ ap (λ m. with_more m (take n next)) wrote ∙ with_more-twice before text (take n next)
-    ∙ ap (with_more before) (sym (take-front text next n)))
+took-later before mid after text next wrote (n, took) = (
+  length text + n,
+  took ∙ ap (λ m. with_more m (take n next)) wrote ∙ with_more-twice before text (take n next)
+      ∙ ap (with_more before) (sym (take-front text next n)),
+)
 
 part-later : (before mid after : Option (List ℕ)) (told text : List ℕ) → mid ≡ with_more before told →
     TakesShortPrefix mid after text → TakesShortPrefix before after (told ++ text)
@@ -63,9 +65,11 @@ pub ends-badly : (status : Status) (outcome : List ℕ → Outcome) (capture tol
     (before mid after left : Option (List ℕ)) → (outcome capture).status ≡ statuses.BadCapture →
     text_of_outcome (outcome capture) ≡ told ++ text → mid ≡ with_more before told
     → EndsBadly status text mid after → Ends outcome status capture before after left
-ends-badly statuses.BadCapture outcome capture told text before mid after left is whole wrote ends =
-    (is, ends ∙ ap (λ m. with_more m text) wrote ∙ with_more-twice before told text
-    ∙ ap (with_more before) (sym whole))
+ends-badly statuses.BadCapture outcome capture told text before mid after left is whole wrote ends = (
+  is,
+  ends ∙ ap (λ m. with_more m text) wrote ∙ with_more-twice before told text
+      ∙ ap (with_more before) (sym whole),
+)
 ends-badly statuses.WriteFault outcome capture told text before mid after left is whole wrote ends =
     subst (TakesShortPrefix before after) (sym whole) (part-later before mid after told text wrote ends)
 ends-badly statuses.NoMemory outcome capture told text before mid after left is whole wrote ends =

@@ -77,8 +77,11 @@ first_refused None None = None
 -- the call with this codec and these settings, of what the lines behind the first give
 abbrev pub call_with : CodecName × Settings → Reading → Call
 call_with told r = record {
-    codec = told.0; settings = told.1; events = before_tick r.events; bad =
-    first_refused (first_tick r.events) r.bad }
+  codec = told.0;
+  settings = told.1;
+  events = before_tick r.events;
+  bad = first_refused (first_tick r.events) r.bad;
+}
 
 -- the call of the first line, which tells a codec and settings or is refused, and of the others
 abbrev pub call_from : Result (CodecName × Settings) ErrorReason → List (List ℕ) → Result Call ErrorReason
@@ -97,8 +100,10 @@ call_of capture = call_in (lines_of capture)
 abbrev pub outcome_of : Result Call ErrorReason → Outcome
 outcome_of (Err reason) = refusal reason
 outcome_of (Ok call) = record {
-    status = status_of call.bad; text = transcript call.settings (meaning_of call.codec) [] call.events; last =
-    error_text call.bad }
+  status = status_of call.bad;
+  text = transcript call.settings (meaning_of call.codec) [] call.events;
+  last = error_text call.bad;
+}
 
 -- what a replay of a capture gives
 abbrev pub replay_outcome : List ℕ → Outcome

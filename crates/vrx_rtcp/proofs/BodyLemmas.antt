@@ -87,10 +87,15 @@ nack_is count content fit room =
     elim (cases_eq count FMT_NACK) [
       | inl one ↦ subst (λ (n : ℕ). Means n RTPFB content (message_of n RTPFB content)) (sym one)
           (refl, refl, feedback_is content fit room)
-      | inr other ↦ rw (ne_eqb count FMT_NACK other)
-          (refl, record {
-          no_report = (omega arith, omega arith); no_bye = omega arith; other_nack = λ _. (other, room); other_pli =
-          λ is. absurd (omega (arith, is)) })
+      | inr other ↦ rw (ne_eqb count FMT_NACK other) (
+        refl,
+        record {
+          no_report = (omega arith, omega arith);
+          no_bye = omega arith;
+          other_nack = λ _. (other, room);
+          other_pli = λ is. absurd (omega (arith, is));
+        },
+      )
     ]
 
 pli_is : (count : ℕ) (content : List ℕ) → Octets content → 8 ≤ length content →
@@ -100,18 +105,28 @@ pli_is count content fit room =
     elim (cases_eq count FMT_PLI) [
       | inl one ↦ subst (λ (n : ℕ). Means n PSFB content (message_of n PSFB content)) (sym one)
           (refl, refl, drop 8 content, feedback_is content fit room)
-      | inr other ↦ rw (ne_eqb count FMT_PLI other)
-          (refl, record {
-          no_report = (omega arith, omega arith); no_bye = omega arith; other_nack =
-          λ is. absurd (omega (arith, is)); other_pli = λ _. (other, room) })
+      | inr other ↦ rw (ne_eqb count FMT_PLI other) (
+        refl,
+        record {
+          no_report = (omega arith, omega arith);
+          no_bye = omega arith;
+          other_nack = λ is. absurd (omega (arith, is));
+          other_pli = λ _. (other, room);
+        },
+      )
     ]
 
 other_is : (count kind : ℕ) (content : List ℕ) → kind ≢ SR → kind ≢ RR → kind ≢ BYE → kind ≢ RTPFB → kind ≢ PSFB →
     Means count kind content (message_of count kind content)
 unfolding message_of
 other_is count kind content no_sr no_rr not_bye no_rtpfb no_psfb =
-    rw (ne_eqb kind SR no_sr, ne_eqb kind RR no_rr, ne_eqb kind BYE not_bye, ne_eqb kind RTPFB no_rtpfb,
-    ne_eqb kind PSFB no_psfb) (
+    rw (
+      ne_eqb kind SR no_sr,
+      ne_eqb kind RR no_rr,
+      ne_eqb kind BYE not_bye,
+      ne_eqb kind RTPFB no_rtpfb,
+      ne_eqb kind PSFB no_psfb,
+    ) (
       refl,
       record {
         no_report = (no_sr, no_rr);
@@ -126,7 +141,7 @@ pub message_of-means : (count kind : ℕ) (content : List ℕ) → Octets conten
     Means count kind content (message_of count kind content)
 message_of-means count kind content fit room =
     let Holds : ℕ → Type 0 =
-        λ k. least k count ≤ length content + 4 → Means count k content (message_of count k content) in
+    λ k. least k count ≤ length content + 4 → Means count k content (message_of count k content) in
     elim (cases_eq kind SR) [
       | inl is ↦ subst Holds (sym is) (λ r. sender_is count content fit (omega arith)) room
       | inr no_sr ↦ elim (cases_eq kind RR) [
@@ -156,12 +171,16 @@ sender_read : (count : ℕ) (content : List ℕ) (s : SenderFields) → IsSender
 unfolding message_of
 sender_read count content s is =
     let parts : List ℕ = to_be_bytes w32 s.ssrc ++ to_be_bytes w64 s.ntp ++ to_be_bytes w32 s.rtp_time
-        ++ to_be_bytes w32 s.packets ++ to_be_bytes w32 s.octets ++ s.blocks ++ is.extension in
+    ++ to_be_bytes w32 s.packets ++ to_be_bytes w32 s.octets ++ s.blocks ++ is.extension in
     let made : IsRead count SR parts (Sender s) = record {
-      read = rw (from_be_bytes-to_be_bytes_4 s.ssrc is.ssrc_fits, from_be_bytes-to_be_bytes_8 s.ntp is.ntp_fits,
-          from_be_bytes-to_be_bytes_4 s.rtp_time is.rtp_time_fits,
-          from_be_bytes-to_be_bytes_4 s.packets is.packets_fits, from_be_bytes-to_be_bytes_4 s.octets is.octets_fits,
-          take_at s.blocks is.extension (24 * count) is.whole_blocks) refl;
+      read = rw (
+        from_be_bytes-to_be_bytes_4 s.ssrc is.ssrc_fits,
+        from_be_bytes-to_be_bytes_8 s.ntp is.ntp_fits,
+        from_be_bytes-to_be_bytes_4 s.rtp_time is.rtp_time_fits,
+        from_be_bytes-to_be_bytes_4 s.packets is.packets_fits,
+        from_be_bytes-to_be_bytes_4 s.octets is.octets_fits,
+        take_at s.blocks is.extension (24 * count) is.whole_blocks,
+      ) refl;
       room = omega (arith, length-append s.blocks is.extension, is.whole_blocks);
     } in
     subst (λ (x : List ℕ). IsRead count SR x (Sender s)) (sym is.spelled) made
@@ -172,8 +191,10 @@ unfolding message_of
 report_read count content ssrc blocks is =
     let parts : List ℕ = to_be_bytes w32 ssrc ++ blocks ++ is.extension in
     let made : IsRead count RR parts (Report ssrc blocks) = record {
-      read = rw (from_be_bytes-to_be_bytes_4 ssrc is.ssrc_fits,
-          take_at blocks is.extension (24 * count) is.whole_blocks) refl;
+      read = rw (
+        from_be_bytes-to_be_bytes_4 ssrc is.ssrc_fits,
+        take_at blocks is.extension (24 * count) is.whole_blocks,
+      ) refl;
       room = omega (arith, length-append blocks is.extension, is.whole_blocks);
     } in
     subst (λ (x : List ℕ). IsRead count RR x (Report ssrc blocks)) (sym is.spelled) made
@@ -226,10 +247,20 @@ other_read count kind content is =
             subst (λ (k : ℕ). IsRead count k content (Other k)) (sym is_psfb)
             (record { read = rw (ne_eqb count FMT_PLI form.0) refl; room = omega (arith, form.1) })
         | inr no_psfb ↦ record {
-          read = rw (ne_eqb kind SR is.no_report.0, ne_eqb kind RR is.no_report.1, ne_eqb kind BYE is.no_bye,
-              ne_eqb kind RTPFB no_rtpfb, ne_eqb kind PSFB no_psfb) refl;
-          room = rw (ne_eqb kind SR is.no_report.0, ne_eqb kind RR is.no_report.1, ne_eqb kind BYE is.no_bye,
-              ne_eqb kind RTPFB no_rtpfb, ne_eqb kind PSFB no_psfb) (omega arith);
+          read = rw (
+            ne_eqb kind SR is.no_report.0,
+            ne_eqb kind RR is.no_report.1,
+            ne_eqb kind BYE is.no_bye,
+            ne_eqb kind RTPFB no_rtpfb,
+            ne_eqb kind PSFB no_psfb,
+          ) refl;
+          room = rw (
+            ne_eqb kind SR is.no_report.0,
+            ne_eqb kind RR is.no_report.1,
+            ne_eqb kind BYE is.no_bye,
+            ne_eqb kind RTPFB no_rtpfb,
+            ne_eqb kind PSFB no_psfb,
+          ) (omega arith);
         }
       ]
     ]

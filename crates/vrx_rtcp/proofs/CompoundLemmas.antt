@@ -42,9 +42,9 @@ same_front p q x y is_p is_q same =
     let reads_q = reads-packet q.octets y q.message is_q in
     let len : length p.octets ≡ length q.octets = sym reads_p.size ∙ ap size same ∙ reads_q.size in
     let front : p.octets ≡ q.octets = sym (take_at p.octets x (length p.octets) refl)
-        ∙ ap (λ (o : List ℕ). take (length p.octets) o) same ∙ take_at q.octets y (length p.octets) (sym len) in
+    ∙ ap (λ (o : List ℕ). take (length p.octets) o) same ∙ take_at q.octets y (length p.octets) (sym len) in
     let behind : x ≡ y = sym (drop_at p.octets x (length p.octets) refl)
-        ∙ ap (λ (o : List ℕ). drop (length p.octets) o) same ∙ drop_at q.octets y (length p.octets) (sym len) in
+    ∙ ap (λ (o : List ℕ). drop (length p.octets) o) same ∙ drop_at q.octets y (length p.octets) (sym len) in
     let says : p.message ≡ q.message = sym reads_p.message ∙ ap message same ∙ reads_q.message in
     record { same = same_parts p.octets q.octets p.message q.message front says; rest = behind }
 
@@ -70,11 +70,13 @@ same_division (p ∷ ps) [] x y is_ps is_qs stops_x stops_y same =
     (sym same ∙ compound_octets-cons p ps x) stops_y)
 same_division (p ∷ ps) (q ∷ qs) x y is_ps is_qs stops_x stops_y same =
     let front = same_front p q (compound_octets ps ++ x) (compound_octets qs ++ y) is_ps.0 is_qs.0
-        (sym (compound_octets-cons p ps x) ∙ same ∙ compound_octets-cons q qs y) in
+    (sym (compound_octets-cons p ps x) ∙ same ∙ compound_octets-cons q qs y) in
     let later = same_division ps qs x y is_ps.1 is_qs.1 stops_x stops_y front.rest in
     record {
-        packets = ap (λ (r : SpelledPacket). r ∷ ps) front.same
-        ∙ ap (λ (rs : List SpelledPacket). q ∷ rs) later.packets; behind = later.behind }
+      packets = ap (λ (r : SpelledPacket). r ∷ ps) front.same
+          ∙ ap (λ (rs : List SpelledPacket). q ∷ rs) later.packets;
+      behind = later.behind;
+    }
 
 pub one_division : (octets : List ℕ) (ps qs : List SpelledPacket) (x y : List ℕ) → Divides octets ps x →
     Divides octets qs y → SameDivision ps qs x y
@@ -92,7 +94,10 @@ pub compound_divides : (octets : List ℕ) (packets : List SpelledPacket) → Is
     Divides octets packets []
 compound_divides octets packets is =
     record {
-    spelled = is.spelled ∙ sym (append-nil (compound_octets packets)); each = is.each; stops = nothing_stops }
+      spelled = is.spelled ∙ sym (append-nil (compound_octets packets));
+      each = is.each;
+      stops = nothing_stops;
+    }
 
 pub fault_divides : (octets : List ℕ) (fault : RtcpFault) (has : HasFault octets fault) →
     Divides octets has.before has.behind
@@ -118,7 +123,7 @@ some_is k l same = cc
 pub one_fault : (datagram : List ℕ) (e f : RtcpFault) → HasFault datagram e → HasFault datagram f → e ≡ f
 one_fault datagram e f a b =
     let same = one_division datagram a.before b.before a.behind b.behind (fault_divides datagram e a)
-        (fault_divides datagram f b) in
+    (fault_divides datagram f b) in
     let kinds : e.kind ≡ f.kind = some_is e.kind f.kind (sym a.kind ∙ ap first_fault same.behind ∙ b.kind) in
     same_fault e.kind f.kind e.at f.at kinds
     (a.at ∙ ap (λ (ps : List SpelledPacket). length (compound_octets ps)) same.packets ∙ sym b.at)
@@ -171,8 +176,10 @@ division zero octets short fit =
 division (suc fuel) octets short fit =
     elim (kind_or_none (first_fault octets)) [
       | inr some ↦ record {
-          packets = []; behind = octets; divides =
-          record { spelled = refl; each = tt; stops = fault_stops octets some.0 some.1 } }
+        packets = [];
+        behind = octets;
+        divides = record { spelled = refl; each = tt; stops = fault_stops octets some.0 some.1 };
+      }
       | inl none ↦ with_first octets fit none
           (division fuel (drop (size octets) octets)
           (omega (arith, length-drop (size octets) octets, size_some octets)) (Octets-drop (size octets) octets fit))
@@ -185,10 +192,18 @@ whole_or_fault : (octets behind : List ℕ) (packets : List SpelledPacket) (kind
 whole_or_fault octets [] packets kind is some =
     inl (packets, record { spelled = is.spelled ∙ append-nil (compound_octets packets); each = is.each })
 whole_or_fault octets (x ∷ xs) packets kind is some =
-    inr (record { kind = kind; at = length (compound_octets packets) },
-    record {
-    before = packets; behind = x ∷ xs; spelled = is.spelled; each = is.each; remain = λ h. absurd cc; at =
-    refl; kind = some })
+    inr (
+      record { kind = kind; at = length (compound_octets packets) },
+      record {
+        before = packets;
+        behind = x ∷ xs;
+        spelled = is.spelled;
+        each = is.each;
+        remain = λ h. absurd cc;
+        at = refl;
+        kind = some;
+      },
+    )
 
 -- a datagram is a compound, or has a first fault
 pub some_answer : (datagram : List ℕ) → Octets datagram →
@@ -231,9 +246,9 @@ begins_further datagram place number next says so_far is rises within =
     let rest = drop place datagram in
     let p : SpelledPacket = record { octets = take (next - place) rest; message = says } in
     let behind : drop (next - place) rest ≡ drop next datagram = drop-drop (next - place) place datagram
-        ∙ ap (λ (n : ℕ). drop n datagram) (let e : place + (next - place) ≡ next = omega arith in e) in
+    ∙ ap (λ (n : ℕ). drop n datagram) (let e : place + (next - place) ≡ next = omega arith in e) in
     let cut : rest ≡ p.octets ++ drop next datagram =
-        sym (take-append-drop (next - place) rest) ∙ ap (λ (x : List ℕ). p.octets ++ x) behind in
+    sym (take-append-drop (next - place) rest) ∙ ap (λ (x : List ℕ). p.octets ++ x) behind in
     let longer = compound_octets-one_more so_far.packets p in
     record {
       packets = so_far.packets ++ p ∷ [];
@@ -249,10 +264,15 @@ begins_further datagram place number next says so_far is rises within =
 -- at the end they are a compound
 pub begins_whole : (datagram : List ℕ) (place number : ℕ) → Begins datagram place number → length datagram ≤ place →
     (packets : List SpelledPacket) × IsCompound datagram packets × (length packets ≡ number)
-begins_whole datagram place number is ended =
-    (is.packets, record {
+begins_whole datagram place number is ended = (
+  is.packets,
+  record {
     spelled = is.spelled ∙ ap (λ (x : List ℕ). compound_octets is.packets ++ x) (drop_all place datagram ended)
-    ∙ append-nil (compound_octets is.packets); each = is.each }, is.counted)
+        ∙ append-nil (compound_octets is.packets);
+    each = is.each;
+  },
+  is.counted,
+)
 
 -- if no packet is read, that is the first fault
 pub begins_fault : (datagram : List ℕ) (place number : ℕ) (kind : RtcpFaultKind) → Begins datagram place number →

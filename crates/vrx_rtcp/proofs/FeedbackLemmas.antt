@@ -88,10 +88,10 @@ bits_fit top first p (n ∷ numbers) above within rises =
           let one = blp_of-near first n numbers (omega (arith, rises.0)) near in
           let rest = bits_fit top first n numbers (omega (arith, rises.0)) near rises.1 in
           let twice : 2 ^ (n - first) ≡ 2 * 2 ^ (n - first - 1) =
-              ap (λ (k : ℕ). 2 ^ k) (let k : n - first ≡ suc (n - first - 1) = omega (arith, rises.0) in k)
-              ∙ omega (arith, pow-suc 2 (n - first - 1)) in
+          ap (λ (k : ℕ). 2 ^ k) (let k : n - first ≡ suc (n - first - 1) = omega (arith, rises.0) in k)
+          ∙ omega (arith, pow-suc 2 (n - first - 1)) in
           let pow =
-              pow-le-pow_right {n = 2} (omega arith) {i = p - first} {j = n - first - 1} (omega (arith, rises.0)) in
+          pow-le-pow_right {n = 2} (omega arith) {i = p - first} {j = n - first - 1} (omega (arith, rises.0)) in
           omega (arith, one, rest, twice, pow)
     ]
 
@@ -138,10 +138,10 @@ later_items-is top first p before (n ∷ numbers) up rises =
     elim (cases_lt (first + 16) n) [
       | inl beyond ↦
           let own : blp_of (before ++ n ∷ numbers) n ≡ blp_of numbers n =
-              blp_of-after n before (n ∷ numbers) (IsUpTo-raise p n before (omega (arith, rises.0)) up)
-              ∙ blp_of-before n n numbers (omega arith) in
+          blp_of-after n before (n ∷ numbers) (IsUpTo-raise p n before (omega (arith, rises.0)) up)
+          ∙ blp_of-before n n numbers (omega arith) in
           let rest = later_items-is top n n (before ++ n ∷ []) numbers next rises.1
-              ∙ ap (λ (x : List ℕ). map (item_of x) (later_firsts n numbers)) whole in
+          ∙ ap (λ (x : List ℕ). map (item_of x) (later_firsts n numbers)) whole in
           rw (lt-leb n (first + 16) beyond)
           (ap (λ (k : ℕ). record { first = n; blp = k } ∷ later_items n numbers) (sym own)
           ∙ ap (λ (x : List Item). item_of (before ++ n ∷ numbers) n ∷ x) rest)
@@ -219,9 +219,9 @@ pub building-beyond : (top least : ℕ) (all items : List Item) (first blp n : �
     Building top least all (items ++ record { first = first; blp = blp } ∷ []) n 0 rest
 building-beyond top least all items first blp n rest beyond b =
     let none : blp ≡ blp_of (n ∷ rest) first + blp = let e =
-        blp_of-far top first (first + 16) (n ∷ rest) (omega arith) (beyond, b.rises.1) in omega (arith, e) in
+    blp_of-far top first (first + 16) (n ∷ rest) (omega arith) (beyond, b.rises.1) in omega (arith, e) in
     let next : record { first = n; blp = blp_of rest n } ∷ later_items n rest ≡ later_items first (n ∷ rest) =
-        rw (lt-leb n (first + 16) beyond) refl in
+    rw (lt-leb n (first + 16) beyond) refl in
     let below = blp_of-below top n rest b.rises.1 in
     record {
       made = ap (λ (k : ℕ). (items ++ record { first = first; blp = blp } ∷ []) ++ record { first = n; blp = k }
@@ -262,11 +262,11 @@ pub nack-made : (from media words : ℕ) (numbers later : List ℕ) (items : Lis
     → feedback_head FMT_NACK RTPFB words from media ++ flat_map octets_of items ≡ nack_octets from media numbers
 nack-made from media words numbers later items some split made counted =
     let whole : get_or numbers 0 0 ∷ later ≡ numbers =
-        ap (λ (x : List ℕ). get_or numbers 0 0 ∷ x) split ∙ first_and_later numbers some in
+    ap (λ (x : List ℕ). get_or numbers 0 0 ∷ x) split ∙ first_and_later numbers some in
     let same : items ≡ map (item_of numbers) (firsts numbers) =
-        made ∙ ap (λ (x : List ℕ). map (item_of x) (firsts x)) whole in
+    made ∙ ap (λ (x : List ℕ). map (item_of x) (firsts x)) whole in
     let count : words ≡ 2 + length (firsts numbers) = counted ∙ ap (λ (x : List Item). 2 + length x) same
-        ∙ ap (λ (k : ℕ). 2 + k) (length-map (firsts numbers) (item_of numbers)) in
+    ∙ ap (λ (k : ℕ). 2 + k) (length-map (firsts numbers) (item_of numbers)) in
     ap (λ (k : ℕ). feedback_head FMT_NACK RTPFB k from media ++ flat_map octets_of items) count
     ∙ ap (λ (x : List Item).
     feedback_head FMT_NACK RTPFB (2 + length (firsts numbers)) from media ++ flat_map octets_of x) same

@@ -47,7 +47,10 @@ good-padding padding size good =
           elim (cases_eq (padding % 4) 0) [
             | inl whole ↦ let last = rw whole at rest in
                 record {
-                some = omega arith; whole = whole; within = omega (arith, ltb-false size (padding + 4) last) }
+                  some = omega arith;
+                  whole = whole;
+                  within = omega (arith, ltb-false size (padding + 4) last);
+                }
             | inr broken ↦ let h = rw (ne_eqb (padding % 4) 0 broken) at rest in absurd cc
           ]
     ]
@@ -59,7 +62,10 @@ padding-is body padding n len some within whole last =
     let tail = drop (n - padding) body in
     let len_tail : length tail ≡ padding = omega (arith, length-drop (n - padding) body) in
     let last_tail : get_or tail (padding - 1) 0 ≡ padding = get_or-drop (n - padding) body (padding - 1) 0
-        ∙ ap (λ (k : ℕ). get_or body k 0) (let k : (n - padding) + (padding - 1) ≡ n - 1 = omega arith in k) ∙ last in
-    (take (padding - 1) tail, front_and_last tail (padding - 1) (omega arith)
-    ∙ ap (λ (k : ℕ). take (padding - 1) tail ++ k ∷ []) (last_tail ∙ sym len_tail), ap (λ (k : ℕ). k % 4) len_tail
-    ∙ whole)
+    ∙ ap (λ (k : ℕ). get_or body k 0) (let k : (n - padding) + (padding - 1) ≡ n - 1 = omega arith in k) ∙ last in (
+      take (padding - 1) tail,
+      front_and_last tail (padding - 1) (omega arith)
+          ∙ ap (λ (k : ℕ). take (padding - 1) tail ++ k ∷ []) (last_tail ∙ sym len_tail),
+      ap (λ (k : ℕ). k % 4) len_tail
+          ∙ whole,
+    )

@@ -55,8 +55,8 @@ halves top first i p (n ∷ numbers) past rises =
           let further = scaled-near first (i + 1) n numbers (omega (arith, rises.0)) near in
           let rest = halves top first i n numbers (omega (arith, rises.0)) rises.1 in
           let twice : 2 ^ (n - first - i) ≡ 2 ^ (n - first - (i + 1)) * 2 =
-              ap (λ (k : ℕ). 2 ^ k) (let k : n - first - i ≡ suc (n - first - (i + 1)) = omega (arith, rises.0) in k)
-              ∙ pow-suc 2 (n - first - (i + 1)) in
+          ap (λ (k : ℕ). 2 ^ k) (let k : n - first - i ≡ suc (n - first - (i + 1)) = omega (arith, rises.0) in k)
+          ∙ pow-suc 2 (n - first - (i + 1)) in
           omega (arith, here, further, rest, twice)
     ]
 
@@ -106,13 +106,13 @@ named_bits (suc left) top first bits i p (n ∷ numbers) count some place worth 
           let above : first < n = omega arith in
           let one = scaled-near first i n numbers above reach in
           let lowest : 2 ^ (n - first - i) ≡ 1 =
-              ap (λ (k : ℕ). 2 ^ k) (let k : n - first - i ≡ 0 = omega arith in k) in
+          ap (λ (k : ℕ). 2 ^ k) (let k : n - first - i ≡ 0 = omega arith in k) in
           let half = halves top first i n numbers (omega arith) rises.1 in
           let set : bits / 2 ^ (i - 1) % 2 ≡ 1 = omega (arith, worth, one, lowest, half) in
           let next : bits / 2 ^ (i + 1 - 1) ≡ scaled first (i + 1) numbers =
-              further bits i some ∙ omega (arith, worth, one, lowest, half) in
+          further bits i some ∙ omega (arith, worth, one, lowest, half) in
           let rest = named_bits left top first bits (i + 1) n numbers (omega (arith, count)) (omega arith)
-              (omega arith) next rises.1 in
+          (omega arith) next rises.1 in
           let wrapped : (first % 65536 + i) % 65536 ≡ n % 65536 = omega arith in
           named_from-set first bits i left set
           ∙ ap (λ (k : ℕ). k ∷ named_from first bits (i + 1) left) wrapped
@@ -123,7 +123,7 @@ named_bits (suc left) top first bits i p (n ∷ numbers) count some place worth 
           let half = halves top first i (p + 1) (n ∷ numbers) (omega arith) past in
           let clear : bits / 2 ^ (i - 1) % 2 ≡ 0 = omega (arith, worth, half) in
           let next : bits / 2 ^ (i + 1 - 1) ≡ scaled first (i + 1) (n ∷ numbers) =
-              further bits i some ∙ omega (arith, worth, half) in
+          further bits i some ∙ omega (arith, worth, half) in
           named_from-clear first bits i left clear
           ∙ named_bits left top first bits (i + 1) (p + 1) (n ∷ numbers) (omega (arith, count)) (omega arith)
           (omega arith) next past
@@ -201,7 +201,7 @@ unfolding octets_at
 named-item top n before numbers up rises later =
     let all : List ℕ = before ++ n ∷ numbers in
     let own : blp_of all n ≡ blp_of numbers n =
-        blp_of-after n before (n ∷ numbers) up ∙ blp_of-before n n numbers (omega arith) in
+    blp_of-after n before (n ∷ numbers) up ∙ blp_of-before n n numbers (omega arith) in
     let fits = blp_of-below top n numbers rises in
     numbers_named-item (n % 65536) (blp_of all n) (flat_map (item_octets all) (later_firsts n numbers)) (omega arith)
     (omega (arith, own, fits))
@@ -224,7 +224,7 @@ named-later top first p before (n ∷ numbers) up rises =
     elim (cases_lt (first + 16) n) [
       | inl far ↦
           let rest = ap (λ (x : List ℕ). numbers_named (octets_at x (later_firsts n numbers))) (sym whole)
-              ∙ named-later top n n (before ++ n ∷ []) numbers next rises.1 in
+          ∙ named-later top n n (before ++ n ∷ []) numbers next rises.1 in
           rw (lt-leb n (first + 16) far)
           (named-item top n before numbers (IsUpTo-raise p n before (omega (arith, rises.0)) up) rises.1 rest)
           ∙ sym (ap wire (beyond-far top first (first + 16) (n ∷ numbers) (omega arith) (far, rises.1)))
@@ -283,7 +283,7 @@ length-items numbers (first ∷ firsts) = let rest = length-items numbers firsts
 read_as : (octets : List ℕ) (says : Message) → IsPacket octets says → IsReadAs octets says
 read_as octets says is =
     let reads =
-        subst (λ (x : List ℕ). Reads x (length octets) says) (append-nil octets) (reads-packet octets [] says is) in
+    subst (λ (x : List ℕ). Reads x (length octets) says) (append-nil octets) (reads-packet octets [] says is) in
     record {
       packet = is;
       no_fault = reads.no_fault;

@@ -45,9 +45,9 @@ pub drop-number : (w : Width) (limit : ℕ) (wide : IsWide w limit) (i : ℕ) (o
 drop-number w limit wide i octets fit room =
     let from_i = drop i octets in
     let cut : length (take (byte_len w) from_i) ≡ byte_len w =
-        omega (arith, length-take (byte_len w) from_i, length-drop i octets) in
+    omega (arith, length-take (byte_len w) from_i, length-drop i octets) in
     let front =
-        wide.back (take (byte_len w) from_i) cut (Octets-take (byte_len w) from_i (Octets-drop i octets fit)) in
+    wide.back (take (byte_len w) from_i) cut (Octets-take (byte_len w) from_i (Octets-drop i octets fit)) in
     let behind = drop-drop (byte_len w) i octets in
     sym (take-append-drop (byte_len w) from_i)
     ∙ ap (λ (front : List ℕ). front ++ drop (byte_len w) from_i) (sym front)

@@ -68,9 +68,11 @@ ends_are : (padded : Bool) (padding words : ℕ) (body : List ℕ) → length bo
 ends_are false padding words body len good last = (drop_all (4 * (words + 1) - 0 - 4) body (omega arith), omega arith)
 ends_are true padding words body len good last =
     let is = good-padding padding (4 * (words + 1)) good in
-    let from_here : 4 * words - padding ≡ 4 * (words + 1) - padding - 4 = omega arith in
-    (subst (λ (k : ℕ). IsPadding true (drop k body)) from_here
-    (padding-is body padding (4 * words) len is.some (omega arith) is.whole (last (omega arith))), is.within)
+    let from_here : 4 * words - padding ≡ 4 * (words + 1) - padding - 4 = omega arith in (
+      subst (λ (k : ℕ). IsPadding true (drop k body)) from_here
+          (padding-is body padding (4 * words) len is.some (omega arith) is.whole (last (omega arith))),
+      is.within,
+    )
 
 -- the octets after the header are the content and the padding
 parts_are : (first kind high low : ℕ) (behind : List ℕ) (words length_of_content : ℕ) →
@@ -81,7 +83,7 @@ parts_are first kind high low behind words n within =
     let body = take (4 * words) behind in
     let counted : 4 * (words + 1) ≡ suc (suc (suc (suc (4 * words)))) = omega arith in
     let cut : body ≡ take n behind ++ drop n body = sym (take-append-drop n body)
-        ∙ ap (λ (x : List ℕ). x ++ drop n body) (take-take n (4 * words) behind within) in
+    ∙ ap (λ (x : List ℕ). x ++ drop n body) (take-take n (4 * words) behind within) in
     ap (λ (k : ℕ). take k (first ∷ kind ∷ high ∷ low ∷ behind)) counted
     ∙ ap (λ (x : List ℕ). first ∷ kind ∷ high ∷ low ∷ x) cut
 
@@ -122,7 +124,7 @@ message-is (first ∷ kind ∷ high ∷ low ∷ behind) fit none =
     let ends = ends_are (is_padded octets) (last octets) words body len is.good told in
     let of_content : ℕ = unpadded_size octets - 4 in
     let spelled_words : to_be_bytes w16 words ≡ high ∷ low ∷ [] =
-        be_bytes_2 (high ∷ low ∷ []) words refl (λ i. two_octets high low i high_fits low_fits) refl in
+    be_bytes_2 (high ∷ low ∷ []) words refl (λ i. two_octets high low i high_fits low_fits) refl in
     let parts = parts_are first kind high low behind words of_content (omega (arith, ends.1)) in
     record {
       padded = is_padded octets;
@@ -170,8 +172,8 @@ last-padding : (content front rest : List ℕ) (n : ℕ) →
     get_or ((content ++ (front ++ n ∷ [])) ++ rest) (length content + length front) 0 ≡ n
 last-padding content front rest n =
     let regrouped : (content ++ (front ++ n ∷ [])) ++ rest ≡ content ++ (front ++ n ∷ rest) =
-        append_assoc content (front ++ n ∷ []) rest
-        ∙ ap (λ (x : List ℕ). content ++ x) (append_assoc front (n ∷ []) rest) in
+    append_assoc content (front ++ n ∷ []) rest
+    ∙ ap (λ (x : List ℕ). content ++ x) (append_assoc front (n ∷ []) rest) in
     ap (λ (x : List ℕ). get_or x (length content + length front) 0) regrouped
     ∙ get_or-append-add content (front ++ n ∷ rest) (length front) 0 ∙ get_or-append_seam front n rest 0
 
@@ -185,7 +187,7 @@ last-followed count kind words content padding rest fit len ends =
     let shape : padding ≡ ends.0 ++ n ∷ [] = ends.1 in
     let counted : length padding ≡ length ends.0 + 1 = ap length shape ∙ length-append ends.0 (n ∷ []) in
     let place : size octets - 1 ≡ suc (suc (suc (suc (length content + length ends.0)))) =
-        omega (arith, size-followed true count kind words content padding rest fit) in
+    omega (arith, size-followed true count kind words content padding rest fit) in
     ap (λ (k : ℕ). get_or octets k 0) place
     ∙ ap (λ (x : List ℕ). get_or ((content ++ x) ++ rest) (length content + length ends.0) 0) shape
     ∙ last-padding content ends.0 rest n
@@ -219,7 +221,7 @@ reads_padding true count kind words content padding rest below fit len ends =
     let padded = is_padded-first_octet true count below in
     let number = last-followed count kind words content padding rest fit len ends in
     let counted : length padding ≡ length ends.0 + 1 =
-        ap length ends.1 ∙ length-append ends.0 (length padding ∷ []) in
+    ap length ends.1 ∙ length-append ends.0 (length padding ∷ []) in
     let good = good_of (length padding) (4 * (words + 1)) (omega arith) ends.2 (omega arith) in
     record {
       number = ap (λ (b : Bool). cond b (last octets) 0) padded ∙ number;
@@ -247,12 +249,12 @@ reads_followed padded number kind words content_octets padding_octets rest says 
     ∙ ap (λ (x : List ℕ). take (length content_octets) x) (append_assoc content_octets padding_octets rest)
     ∙ take_at content_octets (padding_octets ++ rest) (length content_octets) refl in
     let enough : least kind (count octets) ≤ unpadded_size octets =
-        subst (λ (n : ℕ). least kind n ≤ unpadded_size octets) (sym counted)
-        (subst (λ (k : ℕ). least kind number ≤ k) (sym whole) read.room) in
+    subst (λ (n : ℕ). least kind n ≤ unpadded_size octets) (sym counted)
+    (subst (λ (k : ℕ). least kind number ≤ k) (sym whole) read.room) in
     let behind : length ((content_octets ++ padding_octets) ++ rest)
-        ≡ (length content_octets + length padding_octets) + length rest =
-        length-append (content_octets ++ padding_octets) rest
-        ∙ ap (λ (k : ℕ). k + length rest) (length-append content_octets padding_octets) in
+    ≡ (length content_octets + length padding_octets) + length rest =
+    length-append (content_octets ++ padding_octets) rest
+    ∙ ap (λ (k : ℕ). k + length rest) (length-append content_octets padding_octets) in
     let long : 4 * (words + 1) ≤ length octets = omega arith in
     let version_is : version octets ≡ 2 = version-first_octet padded number below in
     record {
@@ -272,9 +274,9 @@ pub reads-packet : (packet rest : List ℕ) (says : Message) → IsPacket packet
     Reads (packet ++ rest) (length packet) says
 reads-packet packet rest says is =
     let len : length is.content + length is.padding ≡ 4 * is.words =
-        omega (arith, is.measured, ap length is.spelled, length-append is.content is.padding) in
+    omega (arith, is.measured, ap length is.spelled, length-append is.content is.padding) in
     let reads = reads_followed is.padded is.count is.kind is.words is.content is.padding rest says is.count_fits
-        is.words_fit len is.ends is.means in
+    is.words_fit len is.ends is.means in
     subst (λ (n : ℕ). Reads (packet ++ rest) n says) (sym is.measured)
     (subst (λ (x : List ℕ). Reads (x ++ rest) (4 * (is.words + 1)) says) (sym is.spelled) reads)
 

@@ -48,7 +48,7 @@ passes zero octets packets fits each same = eq-eqb (length octets) 0 (omega (ari
 passes (suc most) octets [] fits each same = or_left _ _ (eq-eqb (length octets) 0 (ap length same))
 passes (suc most) octets (p ∷ packets) fits each same =
     let f : Front octets (compound_octets packets ++ []) =
-        front octets (compound_octets packets ++ []) p each.0 (same ∙ compound_octets-cons p packets []) in
+    front octets (compound_octets packets ++ []) p each.0 (same ∙ compound_octets-cons p packets []) in
     let len : length (drop (size octets) octets) ≡ length (compound_octets packets ++ []) = ap length f.behind in
     or_right _ _ (and_from _ _ (ap is_none f.no_fault)
     (passes most (drop (size octets) octets) packets (omega (arith, len, f.shorter, fits)) each.1 f.behind))
@@ -63,7 +63,7 @@ fails zero octets [] behind kind fits each same remain fault =
     (let len : length octets ≡ length behind = ap length same in omega (arith, fits, len))))
 fails zero octets (p ∷ before) behind kind fits each same remain fault =
     let f : Front octets (compound_octets before ++ behind) =
-        front octets (compound_octets before ++ behind) p each.0 (same ∙ compound_octets-cons p before behind) in
+    front octets (compound_octets before ++ behind) p each.0 (same ∙ compound_octets-cons p before behind) in
     absurd (omega (arith, f.long, fits))
 fails (suc most) octets [] behind kind fits each same remain fault =
     let len : length octets ≡ length behind = ap length same in
@@ -71,7 +71,7 @@ fails (suc most) octets [] behind kind fits each same remain fault =
     (and_left _ _ (ap (λ (x : List ℕ). is_none (first_fault x)) same ∙ ap is_none fault))
 fails (suc most) octets (p ∷ before) behind kind fits each same remain fault =
     let f : Front octets (compound_octets before ++ behind) =
-        front octets (compound_octets before ++ behind) p each.0 (same ∙ compound_octets-cons p before behind) in
+    front octets (compound_octets before ++ behind) p each.0 (same ∙ compound_octets-cons p before behind) in
     let len : length (drop (size octets) octets) ≡ length (compound_octets before ++ behind) = ap length f.behind in
     or_from _ _ (ne_eqb (length octets) 0 (λ none. omega (arith, f.long, none)))
     (and_right _ _ (fails most (drop (size octets) octets) before behind kind

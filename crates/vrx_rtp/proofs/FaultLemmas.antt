@@ -56,7 +56,7 @@ module _ (octets : List ℕ) where
   fault_of-sources count rest f next is long behind =
       let size : length rest ≡ length octets - 12 = ap length (sym is) ∙ length-drop 12 octets in
       let same : ltb (length rest) (4 * count) ≡ ltb (length octets) (12 + 4 * count) =
-          same_ltb (length rest) (4 * count) (length octets) (12 + 4 * count) (λ h. omega arith) (λ h. omega arith) in
+      same_ltb (length rest) (4 * count) (length octets) (12 + 4 * count) (λ h. omega arith) (λ h. omega arith) in
       fault_of-test (ltb (length rest) (4 * count)) (fault CsrcPastEnd 12)
       (take (4 * count) rest, drop (4 * count) rest) f next
       (λ no. behind (let fits : 4 * count ≤ length rest = ltb-false _ _ no in omega arith))
@@ -76,15 +76,15 @@ module _ (octets : List ℕ) where
         (Some (fault ExtensionPastEnd s)) next
     fault_of-words (p1 ∷ p0 ∷ c1 ∷ c0 ∷ words) is long behind =
         let size : suc (suc (suc (suc (length words)))) ≡ length octets - s =
-            ap length (sym is) ∙ length-drop s octets in
+        ap length (sym is) ∙ length-drop s octets in
         let high : get_or octets (s + 2) 0 ≡ c1 =
-            sym (get_or-drop s octets 2 0) ∙ ap (λ (x : List ℕ). get_or x 2 0) is in
+        sym (get_or-drop s octets 2 0) ∙ ap (λ (x : List ℕ). get_or x 2 0) is in
         let low : get_or octets (s + 3) 0 ≡ c0 =
-            sym (get_or-drop s octets 3 0) ∙ ap (λ (x : List ℕ). get_or x 3 0) is in
+        sym (get_or-drop s octets 3 0) ∙ ap (λ (x : List ℕ). get_or x 3 0) is in
         let k : ℕ = 4 * (c1 * 256 + c0) in
         let end_is : s + (4 + 4 * counted) ≡ s + (4 + k) = omega arith in
         let same : ltb (length words) k ≡ ltb (length octets) (s + (4 + 4 * counted)) =
-            same_ltb (length words) k (length octets) (s + (4 + 4 * counted)) (λ h. omega arith) (λ h. omega arith) in
+        same_ltb (length words) k (length octets) (s + (4 + 4 * counted)) (λ h. omega arith) (λ h. omega arith) in
         let past : drop (s + (4 + 4 * counted)) octets ≡ drop k words =
         ap (λ (n : ℕ). drop n octets) end_is ∙ sym (drop-drop (4 + k) s octets) ∙ ap (drop (4 + k)) is
         ∙ (let four : 4 + k ≡ suc (suc (suc (suc k))) = omega arith in
@@ -118,7 +118,7 @@ module _ (octets : List ℕ) where
     fault_of-padding true [] is long =
         let size : 0 ≡ length octets - h = ap length (sym is) ∙ length-drop h octets in
         let bad : (eqb (last_octet octets) 0 || ltb (length octets) (h + (last_octet octets))) ≡ true =
-            bad-none (length octets) h (last_octet octets) (omega arith) in
+        bad-none (length octets) h (last_octet octets) (omega arith) in
         ap (λ (b : Bool). cond b (Some (fault PaddingPastEnd (length octets - 1))) None) (sym bad)
     fault_of-padding true (first ∷ others) is long =
         let size : suc (length others) ≡ length octets - h = ap length (sym is) ∙ length-drop h octets in
@@ -200,7 +200,7 @@ module _ (octets : List ℕ) (header : Header) where
         next fits =
             let size : length rest ≡ length octets - 12 = ap length (sym is) ∙ length-drop 12 octets in
             let offset : 12 + length csrc ≡ s =
-                ap (λ (n : ℕ). 12 + n) (length-take-le (4 * header.sources) rest (omega arith)) ∙ at_end in
+            ap (λ (n : ℕ). 12 + n) (length-take-le (4 * header.sources) rest (omega arith)) ∙ at_end in
             let s_fits : s ≤ length octets = omega arith in
             ap (λ (n : ℕ). fault_of (extension_at header.extended n behind >>= behind_extension
             (length octets) header csrc)) offset
@@ -215,7 +215,7 @@ pub fault_of-reading : (octets : List ℕ) → fault_of (reading octets) ≡ fir
 unfolding payload_fault extension_fault sources_fault
 fault_of-reading (first ∷ second ∷ seq1 ∷ seq0 ∷ ts3 ∷ ts2 ∷ ts1 ∷ ts0 ∷ ssrc3 ∷ ssrc2 ∷ ssrc1 ∷ ssrc0 ∷ rest) =
     let octets : List ℕ =
-        first ∷ second ∷ seq1 ∷ seq0 ∷ ts3 ∷ ts2 ∷ ts1 ∷ ts0 ∷ ssrc3 ∷ ssrc2 ∷ ssrc1 ∷ ssrc0 ∷ rest in
+    first ∷ second ∷ seq1 ∷ seq0 ∷ ts3 ∷ ts2 ∷ ts1 ∷ ts0 ∷ ssrc3 ∷ ssrc2 ∷ ssrc1 ∷ ssrc0 ∷ rest in
     let header : Header = record {
       padded = eqb (first / 32 % 2) 1;
       extended = eqb (first / 16 % 2) 1;
@@ -228,7 +228,7 @@ fault_of-reading (first ∷ second ∷ seq1 ∷ seq0 ∷ ts3 ∷ ts2 ∷ ts1 ∷
     } in
     let long : 12 ≤ length octets = omega arith in
     let version : fault_of (reading octets) ≡ cond (not (eqb (first / 64) 2)) (Some (fault Version 0))
-        (sources_fault octets header) =
+    (sources_fault octets header) =
     fault_of-version (eqb (first / 64) 2) (fault Version 0) (header, rest) (behind_header (length octets))
     (sources_fault octets header) (λ two. fault_of-behind octets header rest refl long refl refl) in
     version ∙ sym (cond-false (ltb (length octets) 12) (Some (fault Short (length octets)))

@@ -108,7 +108,7 @@ sources_take : (count : ℕ) (octets : List ℕ) (x : List ℕ × List ℕ) → 
     (octets ≡ x.0 ++ x.1) × (length x.0 ≡ 4 * count) × (x.1 ≡ drop (4 * count) octets)
 sources_take count octets x given =
     let chosen = guard_ok (ltb (length octets) (4 * count)) (fault CsrcPastEnd 12)
-        (take (4 * count) octets, drop (4 * count) octets) x given in
+    (take (4 * count) octets, drop (4 * count) octets) x given in
     let fits : 4 * count ≤ length octets = ltb-false _ _ chosen.0 in
     subst (λ (y : List ℕ × List ℕ). (octets ≡ y.0 ++ y.1) × (length y.0 ≡ 4 * count)
     × (y.1 ≡ drop (4 * count) octets)) chosen.1
@@ -135,7 +135,7 @@ words_take (p1 ∷ p0 ∷ c1 ∷ c0 ∷ octets) x fits given =
     let count : length e.words / 4 ≡ words = omega arith in
     let profile_is = two_are p1 p0 (fits 0) (fits 1) in
     let count_is : to_be_bytes w16 (length e.words / 4) ≡ c1 ∷ c0 ∷ [] =
-        ap (to_be_bytes w16) count ∙ two_are c1 c0 (fits 2) (fits 3) in
+    ap (to_be_bytes w16) count ∙ two_are c1 c0 (fits 2) (fits 3) in
     let parts : extension_octets (Some e) ++ drop (4 * words) octets ≡ p1 ∷ p0 ∷ c1 ∷ c0 ∷ octets =
     append_assoc (to_be_bytes w16 e.profile ++ to_be_bytes w16 (length e.words / 4)) e.words (drop (4 * words) octets)
     ∙ ap (λ (t : List ℕ). (to_be_bytes w16 e.profile ++ to_be_bytes w16 (length e.words / 4)) ++ t)
@@ -146,8 +146,9 @@ words_take (p1 ∷ p0 ∷ c1 ∷ c0 ∷ octets) x fits given =
     (record {
       parts = sym parts;
       fits = record {
-          profile = omega (arith, fits 0, fits 1); words =
-          record { whole = omega arith; fit = omega (arith, fits 2, fits 3) } };
+        profile = omega (arith, fits 0, fits 1);
+        words = record { whole = omega arith; fit = omega (arith, fits 2, fits 3) };
+      };
       rest_fits = IsBytes-drop (4 * words) octets (λ i. fits (suc (suc (suc (suc i)))));
     })
 words_take octets x fits given = absurd cc
@@ -184,12 +185,12 @@ payload_takes : (padded : Bool) (offset : ℕ) (octets : List ℕ) (x : List ℕ
 payload_takes false offset octets x fits given =
     subst (λ (y : List ℕ × ℕ). EndsWith octets y.0 y.1 × (eqb y.1 0 ≡ true)) (ok_is (octets, 0) x given)
     (record { filler = []; filled = refl; parts = sym (append-nil octets); below = lit }, refl) where
-  lit : 0 < 256
-  lit = omega arith
+      lit : 0 < 256
+      lit = omega arith
 payload_takes true offset octets x fits given =
     let n : ℕ = get_or octets (length octets - 1) 0 in
     let chosen = guard_ok (eqb n 0 || ltb (length octets) n) (fault PaddingPastEnd offset)
-        (take (length octets - n) octets, n) x given in
+    (take (length octets - n) octets, n) x given in
     let good = or_parts (eqb n 0) (ltb (length octets) n) chosen.0 in
     let some : 0 < n = (let isnt : n ≡ 0 → ⊥ = eqb-false n 0 good.0 in omega arith) in
     let room : n ≤ length octets = ltb-false _ _ good.1 in
@@ -197,7 +198,7 @@ payload_takes true offset octets x fits given =
     let behind : List ℕ = drop k octets in
     let size : length behind ≡ n = length-drop k octets ∙ omega arith in
     let last : get_or behind (n - 1) 0 ≡ n = get_or-drop k octets (n - 1) 0
-        ∙ (let place : k + (n - 1) ≡ length octets - 1 = omega arith in ap (λ (i : ℕ). get_or octets i 0) place) in
+    ∙ (let place : k + (n - 1) ≡ length octets - 1 = omega arith in ap (λ (i : ℕ). get_or octets i 0) place) in
     let filler : List ℕ = take (n - 1) behind in
     let one_more : n - 1 + 1 ≡ n = omega arith in
     let split : behind ≡ filler ++ n ∷ [] =
@@ -206,10 +207,15 @@ payload_takes true offset octets x fits given =
     let parts : octets ≡ take k octets ++ padding_octets filler n =
     sym (take-append-drop k octets)
     ∙ ap (λ (t : List ℕ). take k octets ++ t) (split ∙ sym (padding_octets-some filler n some)) in
-    subst (λ (y : List ℕ × ℕ). EndsWith octets y.0 y.1 × (eqb y.1 0 ≡ false)) chosen.1
-    (record {
-    filler = filler; filled = length-take-le (n - 1) behind (omega arith); parts = parts; below =
-    fits (length octets - 1) }, good.0)
+    subst (λ (y : List ℕ × ℕ). EndsWith octets y.0 y.1 × (eqb y.1 0 ≡ false)) chosen.1 (
+      record {
+        filler = filler;
+        filled = length-take-le (n - 1) behind (omega arith);
+        parts = parts;
+        below = fits (length octets - 1);
+      },
+      good.0,
+    )
 
 -- the first octet, by its bits
 first_is : (first : ℕ) (none some : Bool) (count : ℕ) → first < 256 → first / 64 ≡ 2 →
@@ -237,13 +243,13 @@ packet-reading octets p are given =
     let sources = bind_ok (sources_at header.sources front.0.1) (behind_sources total header) p front.2 in
     let csrc : List ℕ = sources.0.0 in
     let found = bind_ok (extension_at header.extended (12 + length csrc) sources.0.1)
-        (behind_extension total header csrc) p sources.2 in
+    (behind_extension total header csrc) p sources.2 in
     let ended = bind_ok (payload_at header.padded (total - 1) found.0.1)
-        (λ (x : List ℕ × ℕ). Ok (made header csrc found.0.0 x)) p found.2 in
+    (λ (x : List ℕ × ℕ). Ok (made header csrc found.0.0 x)) p found.2 in
     let one : IsHeader octets header front.0.1 = header_takes octets front.0 (IsBytes-octets octets are) front.1 in
     let two = sources_take header.sources front.0.1 sources.0 sources.1 in
     let bytes : IsBytes sources.0.1 =
-        subst IsBytes (sym two.2) (IsBytes-drop (4 * header.sources) front.0.1 one.rest_fits) in
+    subst IsBytes (sym two.2) (IsBytes-drop (4 * header.sources) front.0.1 one.rest_fits) in
     let three = extension_takes header.extended (12 + length csrc) sources.0.1 found.0 bytes found.1 in
     let four = payload_takes header.padded (total - 1) found.0.1 ended.0 three.0.rest_fits ended.1 in
     let whole : Packet = made header csrc found.0.0 ended.0 in
@@ -302,20 +308,32 @@ first_says : (none some : Bool) (count : ℕ) → count < 16 →
     SaysFirst (128 + cond none 0 32 + cond some 16 0 + count) (not none) some count
 first_says true true count below =
     record {
-    version = eq-eqb _ _ (omega arith); padding = ne_eqb _ _ (λ e. omega arith); extension =
-    eq-eqb _ _ (omega arith); sources = omega arith }
+      version = eq-eqb _ _ (omega arith);
+      padding = ne_eqb _ _ (λ e. omega arith);
+      extension = eq-eqb _ _ (omega arith);
+      sources = omega arith;
+    }
 first_says true false count below =
     record {
-    version = eq-eqb _ _ (omega arith); padding = ne_eqb _ _ (λ e. omega arith); extension =
-    ne_eqb _ _ (λ e. omega arith); sources = omega arith }
+      version = eq-eqb _ _ (omega arith);
+      padding = ne_eqb _ _ (λ e. omega arith);
+      extension = ne_eqb _ _ (λ e. omega arith);
+      sources = omega arith;
+    }
 first_says false true count below =
     record {
-    version = eq-eqb _ _ (omega arith); padding = eq-eqb _ _ (omega arith); extension =
-    eq-eqb _ _ (omega arith); sources = omega arith }
+      version = eq-eqb _ _ (omega arith);
+      padding = eq-eqb _ _ (omega arith);
+      extension = eq-eqb _ _ (omega arith);
+      sources = omega arith;
+    }
 first_says false false count below =
     record {
-    version = eq-eqb _ _ (omega arith); padding = eq-eqb _ _ (omega arith); extension =
-    ne_eqb _ _ (λ e. omega arith); sources = omega arith }
+      version = eq-eqb _ _ (omega arith);
+      padding = eq-eqb _ _ (omega arith);
+      extension = ne_eqb _ _ (λ e. omega arith);
+      sources = omega arith;
+    }
 
 -- the marker and the type of the octet that they make
 marker-of : (marker : Bool) (pt : ℕ) → pt < 128 → leb 128 (marker_and_type marker pt) ≡ marker
@@ -330,10 +348,18 @@ type-of false pt below = omega arith
 header-again : (p : Packet) (rest : List ℕ) → Fits p → header_at (fixed_header p ++ rest) ≡ Ok (header_for p, rest)
 header-again p rest fits =
     let says : SaysFirst (first_octet p) (not (eqb p.padding 0)) (is_some p.extension) (length p.csrc / 4) =
-        first_says (eqb p.padding 0) (is_some p.extension) (length p.csrc / 4) (omega (arith, fits.csrc.fit)) in
-    rw (says.version, says.padding, says.extension, says.sources, marker-of p.marker p.pt fits.pt,
-    type-of p.marker p.pt fits.pt, from_be_bytes-to_be_bytes_2 p.seq fits.seq,
-    from_be_bytes-to_be_bytes_4 p.ts fits.ts, from_be_bytes-to_be_bytes_4 p.ssrc fits.ssrc) refl
+    first_says (eqb p.padding 0) (is_some p.extension) (length p.csrc / 4) (omega (arith, fits.csrc.fit)) in
+    rw (
+      says.version,
+      says.padding,
+      says.extension,
+      says.sources,
+      marker-of p.marker p.pt fits.pt,
+      type-of p.marker p.pt fits.pt,
+      from_be_bytes-to_be_bytes_2 p.seq fits.seq,
+      from_be_bytes-to_be_bytes_4 p.ts fits.ts,
+      from_be_bytes-to_be_bytes_4 p.ssrc fits.ssrc,
+    ) refl
 
 -- sources are read again
 sources-again : (csrc rest : List ℕ) → AreWords 60 csrc →
@@ -341,7 +367,7 @@ sources-again : (csrc rest : List ℕ) → AreWords 60 csrc →
 sources-again csrc rest words =
     let size : length csrc ≡ 4 * (length csrc / 4) = omega (arith, words.whole) in
     let long : ltb (length (csrc ++ rest)) (4 * (length csrc / 4)) ≡ false =
-        le-ltb _ _ (omega (arith, length-append csrc rest)) in
+    le-ltb _ _ (omega (arith, length-append csrc rest)) in
     rw (long, take_at csrc rest (4 * (length csrc / 4)) size, drop_at csrc rest (4 * (length csrc / 4)) size) refl
 
 -- an extension is read again
@@ -350,12 +376,17 @@ extension-again : (offset : ℕ) (extension : Option HeaderExtension) (rest : Li
 extension-again offset None rest fits = refl
 extension-again offset (Some e) rest fits =
     let count : from_be_bytes w16 (to_be_bytes w16 (length e.words / 4)) ≡ length e.words / 4 =
-        from_be_bytes-to_be_bytes_2 (length e.words / 4) (omega (arith, fits.words.fit)) in
+    from_be_bytes-to_be_bytes_2 (length e.words / 4) (omega (arith, fits.words.fit)) in
     let size : length e.words ≡ 4 * (length e.words / 4) = omega (arith, fits.words.whole) in
     let long : ltb (length (e.words ++ rest)) (4 * (length e.words / 4)) ≡ false =
-        le-ltb _ _ (omega (arith, length-append e.words rest)) in
-    rw (count, from_be_bytes-to_be_bytes_2 e.profile fits.profile, long,
-    take_at e.words rest (4 * (length e.words / 4)) size, drop_at e.words rest (4 * (length e.words / 4)) size) refl
+    le-ltb _ _ (omega (arith, length-append e.words rest)) in
+    rw (
+      count,
+      from_be_bytes-to_be_bytes_2 e.profile fits.profile,
+      long,
+      take_at e.words rest (4 * (length e.words / 4)) size,
+      drop_at e.words rest (4 * (length e.words / 4)) size,
+    ) refl
 
 -- a payload before so many padding octets
 payload_at-some : (offset : ℕ) (octets payload : List ℕ) (count : ℕ) →
@@ -373,7 +404,7 @@ payload-again offset payload filler zero filled = ap (λ (t : List ℕ). Ok (t, 
 payload-again offset payload filler (suc n) filled =
     let octets : List ℕ = payload ++ (filler ++ suc n ∷ []) in
     let size : length octets ≡ length payload + suc n =
-        omega (arith, length-append payload (filler ++ suc n ∷ []), length-append filler (suc n ∷ [])) in
+    omega (arith, length-append payload (filler ++ suc n ∷ []), length-append filler (suc n ∷ [])) in
     let last : get_or octets (length octets - 1) 0 ≡ suc n =
     ap (λ (t : List ℕ). get_or t (length octets - 1) 0) (sym (append_assoc payload filler (suc n ∷ [])))
     ∙ get_or_at (payload ++ filler) (suc n) [] 0 (length octets - 1) (omega (arith, length-append payload filler)) in
@@ -391,7 +422,7 @@ reading-octets_of filler p filled fits =
     let octets : List ℕ = octets_with filler p in
     let total : ℕ = length octets in
     let parts : octets ≡ fixed_header p ++ rest =
-        regroup (fixed_header p) p.csrc (extension_octets p.extension) p.payload (padding_octets filler p.padding) in
+    regroup (fixed_header p) p.csrc (extension_octets p.extension) p.payload (padding_octets filler p.padding) in
     ap (λ (t : List ℕ). header_at t >>= behind_header total) parts
     ∙ ap (λ (r : Result (Header × List ℕ) RtpFault). r >>= behind_header total) (header-again p rest fits)
     ∙ ap (λ (r : Result (List ℕ × List ℕ) RtpFault). r >>= behind_sources total (header_for p))
@@ -426,7 +457,11 @@ packet-octets_of octets p is are =
 pub octets_of-packet : (p : Packet) → Fits p → IsPacket (octets_of p) p
 octets_of-packet p fits =
     record {
-    filler = replicate (p.padding - 1) 0; filled = length-replicate (p.padding - 1) 0; spelled = refl; fits = fits }
+      filler = replicate (p.padding - 1) 0;
+      filled = length-replicate (p.padding - 1) 0;
+      spelled = refl;
+      fits = fits;
+    }
 
 -- ---- what is written
 

@@ -8,8 +8,16 @@ use Rattle.vrx_rtp.specs.Reading.{reading, read}
 -- the datagram 80e00001000000000000000a1000aa, which is plain
 marked_packet : read (0x80 ∷ 0xe0 ∷ 0x00 ∷ 0x01 ∷ 0x00 ∷ 0x00 ∷ 0x00 ∷ 0x00 ∷ 0x00 ∷ 0x00 ∷ 0x00 ∷ 0x0a ∷ 0x10 ∷ 0x00
     ∷ 0xaa ∷ []) ≡ Some (record {
-    marker = true; pt = 96; seq = 1; ts = 0; ssrc = 10; csrc = []; extension = None; payload =
-    16 ∷ 0 ∷ 170 ∷ []; padding = 0 })
+      marker = true;
+      pt = 96;
+      seq = 1;
+      ts = 0;
+      ssrc = 10;
+      csrc = [];
+      extension = None;
+      payload = 16 ∷ 0 ∷ 170 ∷ [];
+      padding = 0;
+    })
 marked_packet = refl
 
 -- one contributing source, an extension of one word, one octet of payload and three padding octets

@@ -36,7 +36,7 @@ abbrev pub words_at : List ℕ → Option (HeaderExtension × List ℕ)
 words_at (profile1 ∷ profile0 ∷ count1 ∷ count0 ∷ octets) =
     let count : ℕ = 4 * from_be_bytes w16 (count1 ∷ count0 ∷ []) in
     let extension : HeaderExtension =
-        record { profile = from_be_bytes w16 (profile1 ∷ profile0 ∷ []); words = take count octets } in
+    record { profile = from_be_bytes w16 (profile1 ∷ profile0 ∷ []); words = take count octets } in
     if nat_lt (length octets) count then None else Some (extension, drop count octets)
 words_at octets = None
 

@@ -84,9 +84,9 @@ told_further k datagram text longer place next says so_far is rises within more 
     let rest = drop place datagram in
     let p : SpelledPacket = record { octets = take (next - place) rest; message = says } in
     let behind : drop (next - place) rest ≡ drop next datagram = drop-drop (next - place) place datagram
-        ∙ ap (λ (n : ℕ). drop n datagram) (let e : place + (next - place) ≡ next = omega arith in e) in
+    ∙ ap (λ (n : ℕ). drop n datagram) (let e : place + (next - place) ≡ next = omega arith in e) in
     let cut : rest ≡ p.octets ++ drop next datagram =
-        sym (take-append-drop (next - place) rest) ∙ ap (λ (x : List ℕ). p.octets ++ x) behind in
+    sym (take-append-drop (next - place) rest) ∙ ap (λ (x : List ℕ). p.octets ++ x) behind in
     let one_more = compound_octets-one_more so_far.packets p in
     record {
       packets = so_far.packets ++ p ∷ [];
@@ -107,8 +107,10 @@ pub told_whole : (k : ℕ) (datagram text line : List ℕ) (place : ℕ) → Tol
 told_whole k datagram text line place is ended rtcp e =
     Compound rtcp is.packets
     (record {
-    spelled = is.spelled ∙ ap (λ (x : List ℕ). compound_octets is.packets ++ x) (drop_all place datagram ended)
-    ∙ append-nil (compound_octets is.packets); each = is.each })
+      spelled = is.spelled ∙ ap (λ (x : List ℕ). compound_octets is.packets ++ x) (drop_all place datagram ended)
+          ∙ append-nil (compound_octets is.packets);
+      each = is.each;
+    })
     (e ∙ ap (λ (x : List ℕ). x ++ line_feed) is.words)
 
 -- if no packet is read, that is the first fault

@@ -21,8 +21,9 @@ keeps_on a b c k l =
 pub keeps_front : (front text : List ℕ) → take (length front) text ≡ front → Keeps front text
 keeps_front front text e =
     record {
-    more = drop (length front) text; is =
-    sym (ap (λ x. x ++ drop (length front) text) (sym e) ∙ take-append-drop (length front) text) }
+      more = drop (length front) text;
+      is = sym (ap (λ x. x ++ drop (length front) text) (sym e) ∙ take-append-drop (length front) text);
+    }
 
 -- the front, taken of what keeps it
 pub keeps_cut : (front text : List ℕ) → Keeps front text → take (length front) text ≡ front

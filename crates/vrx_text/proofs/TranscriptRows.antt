@@ -18,8 +18,10 @@ pli = 0x81 ∷ 0xce ∷ 0 ∷ 2 ∷ 0 ∷ 0 ∷ 0 ∷ 0x0b ∷ 0 ∷ 0 ∷ 0 ∷
 -- two repairs and both kinds of feedback
 pub repaired : text_of 9
     (ToDatagram (record {
-    what = Fec 70; repaired = 69 ∷ 65 ∷ []; feedback =
-    record { nack = Some (record { items = nack }); pli = Some pli } })) ≡ codes "9 fec 70" ++ line_feed
+      what = Fec 70;
+      repaired = 69 ∷ 65 ∷ [];
+      feedback = record { nack = Some (record { items = nack }); pli = Some pli };
+    })) ≡ codes "9 fec 70" ++ line_feed
     ++ codes "9 repaired 69" ++ line_feed ++ codes "9 repaired 65" ++ line_feed
     ++ codes "9 nack 81cd00030000000b0000000a00050000" ++ line_feed ++ codes "9 pli 81ce00020000000b0000000a"
     ++ line_feed

@@ -136,23 +136,23 @@ module _ (reads : (octets : List ℕ) → BeginsWithPacket octets → first_faul
   words-compound_octets (p ∷ packets) behind zero offset end each within ends =
       absurd (let len = ap length (is_first p packets behind) in
       let some = (reads-packet p.octets (compound_octets packets ++ behind) p.message each.0).some in
-          omega (arith, len, some))
+      omega (arith, len, some))
   words-compound_octets (p ∷ packets) behind (suc most) offset end each within ends =
       let rest : List ℕ = compound_octets packets ++ behind in
       let whole : compound_octets (p ∷ packets) ++ behind ≡ p.octets ++ rest = is_first p packets behind in
       let none : first_fault (p.octets ++ rest) ≡ None =
-          reads (p.octets ++ rest)
-          (record { packet = p.octets; behind = rest; message = p.message; spelled = refl; is = each.0 }) in
+      reads (p.octets ++ rest)
+      (record { packet = p.octets; behind = rest; message = p.message; spelled = refl; is = each.0 }) in
       let step = words-step most offset (p.octets ++ rest) rest (length p.octets) p.message
-          (reads-packet p.octets rest p.message each.0) none in
+      (reads-packet p.octets rest p.message each.0) none in
       let measured : length (compound_octets (p ∷ packets)) ≡ length p.octets + length (compound_octets packets) =
-          ap length (flat_map-cons (λ (q : SpelledPacket). q.octets) p packets)
-          ∙ length-append p.octets (compound_octets packets) in
+      ap length (flat_map-cons (λ (q : SpelledPacket). q.octets) p packets)
+      ∙ length-append p.octets (compound_octets packets) in
       let place : offset + length (compound_octets (p ∷ packets)) ≡ (offset + length p.octets) + length
-          (compound_octets packets) = omega arith in
+      (compound_octets packets) = omega arith in
       let fuel : length rest ≤ most = omega (arith, ap length whole, length-append p.octets rest, each.0.measured) in
       let later = words-compound_octets packets behind most (offset + length p.octets) end each.1 fuel
-          (λ m enough. sym (ap (λ (n : ℕ). words_from m n behind) place) ∙ ends m enough) in
+      (λ m enough. sym (ap (λ (n : ℕ). words_from m n behind) place) ∙ ends m enough) in
       ap (λ (x : List ℕ). words_from (suc most) offset x) whole
       ∙ step
       ∙ ap (λ (r : Result (List ℕ) RtcpFault). with_word (spaced_word p.message) r) later
@@ -165,7 +165,7 @@ module _ (reads : (octets : List ℕ) → BeginsWithPacket octets → first_faul
       words_in octets ≡ Ok (packet_words packets)
   words-compound octets packets is =
       let spelled : octets ≡ compound_octets packets ++ [] =
-          is.spelled ∙ sym (append-nil (compound_octets packets)) in
+      is.spelled ∙ sym (append-nil (compound_octets packets)) in
       let within : length (compound_octets packets ++ []) ≤ length octets = omega (arith, ap length spelled) in
       ap (λ (x : List ℕ). words_from (length octets) 0 x) spelled
       ∙ words-compound_octets packets [] (length octets) 0 (Ok []) is.each within
@@ -176,7 +176,7 @@ module _ (reads : (octets : List ℕ) → BeginsWithPacket octets → first_faul
   pub words-has_fault : (octets : List ℕ) (fault : RtcpFault) → HasFault octets fault → words_in octets ≡ Err fault
   words-has_fault octets fault has =
       let within : length (compound_octets has.before ++ has.behind) ≤ length octets =
-          omega (arith, ap length has.spelled) in
+      omega (arith, ap length has.spelled) in
       let place : 0 + length (compound_octets has.before) ≡ fault.at = omega (arith, has.at) in
       ap (λ (x : List ℕ). words_from (length octets) 0 x) has.spelled
       ∙ words-compound_octets has.before has.behind (length octets) 0 (Err fault) has.each within

@@ -45,7 +45,7 @@ fields_spelled (head ∷ rest) f is =
     let low = next_of (bit BIT_M (octet_of picture.octets)) picture.behind _ f picture.goes_on in
     let tl0 = next_of (bit BIT_L (octet_of flags.octets)) low.behind _ f low.goes_on in
     let tid =
-        next_of (bit BIT_T (octet_of flags.octets) || bit BIT_K (octet_of flags.octets)) tl0.behind _ f tl0.goes_on in
+    next_of (bit BIT_T (octet_of flags.octets) || bit BIT_K (octet_of flags.octets)) tl0.behind _ f tl0.goes_on in
     let same = same_Some _ f tid.goes_on in
     record {
       head = head;
@@ -124,7 +124,7 @@ pub layers-said : (payload : List ℕ) (f : Fields) (d : IsDescriptor payload f)
     SaysLayers payload f d
 layers-said payload f d some =
     let three = some_if (bit BIT_M (octet_of d.picture)) (bit BIT_L (octet_of d.flags))
-        (bit BIT_T (octet_of d.flags)) _ (subst IsSome d.layers some) in
+    (bit BIT_T (octet_of d.flags)) _ (subst IsSome d.layers some) in
     record {
       x = came (bit BIT_X d.head) BIT_L d.flags d.x refl three.b_is;
       i = came (bit BIT_I (octet_of d.flags)) BIT_M d.picture d.i refl three.a_is;

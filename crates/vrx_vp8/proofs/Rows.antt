@@ -15,8 +15,11 @@ body_missing = refl
 -- 90e08001050000aa: the start of a keyframe, with layers
 pub part_with_layers : read_part (144 ∷ 224 ∷ 128 ∷ 1 ∷ 5 ∷ 0 ∷ 0 ∷ 170 ∷ [])
     ≡ Ok (record {
-    start = Yes; key = true; layers = Some (record { picture = 1; tl0 = 5; tid = 0; sync = false }); body =
-    0 ∷ 170 ∷ [] })
+      start = Yes;
+      key = true;
+      layers = Some (record { picture = 1; tl0 = 5; tid = 0; sync = false });
+      body = 0 ∷ 170 ∷ [];
+    })
 part_with_layers = refl
 
 -- 1000aa: the start of a keyframe, without layers

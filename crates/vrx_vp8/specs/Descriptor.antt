@@ -47,7 +47,11 @@ fields_after head flags = do
     start = bit BIT_S head && (head % 8 == 0);
     layers = if bit BIT_M picture.0 && bit BIT_L flags.0 && bit BIT_T flags.0
         then Some (record {
-        picture = picture.0 % 128 * 256 + low.0; tl0 = tl0.0; tid = tid.0 / 64; sync = bit BIT_Y tid.0 })
+          picture = picture.0 % 128 * 256 + low.0;
+          tl0 = tl0.0;
+          tid = tid.0 / 64;
+          sync = bit BIT_Y tid.0;
+        })
         else None;
     body = tid.1;
   })
@@ -64,7 +68,11 @@ abbrev pub part_with : ℕ → Fields → List ℕ → Result Part PartFault
 part_with len f [] = Err (record { code = NO_BODY; at = len })
 part_with len f (octet ∷ rest) =
     Ok (record {
-    start = if f.start then Yes else No; key = f.start && (octet % 2 == 0); layers = f.layers; body = octet ∷ rest })
+      start = if f.start then Yes else No;
+      key = f.start && (octet % 2 == 0);
+      layers = f.layers;
+      body = octet ∷ rest;
+    })
 
 -- the part that the fields give, if the descriptor doesn't run past the end
 abbrev pub part_of : ℕ → Option Fields → Result Part PartFault

@@ -36,8 +36,10 @@ takes most false rest are fits = record { octet = omega arith; rest = are; fits 
 takes most true [] are fits = tt
 takes most true (octet ∷ rest) are fits =
     record {
-    octet = All-head (λ octet. octet < 256) octet rest are; rest =
-    All-tail (λ octet. octet < 256) octet rest are; fits = omega arith }
+      octet = All-head (λ octet. octet < 256) octet rest are;
+      rest = All-tail (λ octet. octet < 256) octet rest are;
+      fits = omega arith;
+    }
 
 -- what comes next, if there is a value of which a condition holds
 next_holds : {A B : Type 0} (P : A → Type 0) (Q : B → Type 0) (o : Option A) (f : A → Option B) → IfSome o P →
@@ -68,8 +70,10 @@ behind_fit most head flags is =
     next_holds (Taken most) (Fits most) (octet_if (bit BIT_T flags.0 || bit BIT_K flags.0) tl0.1) _
     (takes most (bit BIT_T flags.0 || bit BIT_K flags.0) tl0.1 is_tl0.rest is_tl0.fits) (λ tid is_tid.
     record {
-        layers = fit_layers (bit BIT_M picture.0 && bit BIT_L flags.0 && bit BIT_T flags.0) picture.0 low.0 tl0.0
-        tid.0 (bit BIT_Y tid.0) is_low.octet is_tid.octet; body = is_tid.fits }))))
+      layers = fit_layers (bit BIT_M picture.0 && bit BIT_L flags.0 && bit BIT_T flags.0) picture.0 low.0 tl0.0
+          tid.0 (bit BIT_Y tid.0) is_low.octet is_tid.octet;
+      body = is_tid.fits;
+    }))))
 
 fields_fit : (payload : List ℕ) → AreOctets payload → IfSome (fields payload) (Fits (length payload))
 fields_fit payload are =

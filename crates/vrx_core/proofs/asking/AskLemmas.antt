@@ -74,12 +74,13 @@ pub counted-each : (past : List Snapshot) (ns : List ℕ) (n : ℕ) → list_all
     Contains ns n → WasCounted past n
 counted-each past ns n all c =
     let is : is_counted (ask_of past n) ≡ true =
-        list_all-each is_counted (map (ask_of past) ns) (ask_of past n) all (map-to (ask_of past) ns n c) in
+    list_all-each is_counted (map (ask_of past) ns) (ask_of past n) all (map-to (ask_of past) ns n c) in
     let p : (nat_le 1 (length (requests past n)) ≡ true) × (nat_le (length (requests past n)) MOST_REQUESTS ≡ true) =
-        and_parts (nat_le 1 (length (requests past n))) (nat_le (length (requests past n)) MOST_REQUESTS) is in
+    and_parts (nat_le 1 (length (requests past n))) (nat_le (length (requests past n)) MOST_REQUESTS) is in
     record {
-        once = leb-true 1 (length (requests past n)) p.0; few =
-        leb-true (length (requests past n)) MOST_REQUESTS p.1 }
+      once = leb-true 1 (length (requests past n)) p.0;
+      few = leb-true (length (requests past n)) MOST_REQUESTS p.1;
+    }
 
 -- the same, of asks that are those of a past
 pub counted-of : (past : List Snapshot) (asks : List Ask) → asks ≡ map (ask_of past) (missing past) → IsAsks asks →

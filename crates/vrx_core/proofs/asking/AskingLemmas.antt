@@ -32,7 +32,7 @@ taken-first : (codec : Meaning) (past : List Snapshot) (moment n : ℕ) (content
     is_among (after_datagram codec past moment (Ok (n, content))).asked m ≡ true → length (requests past m) ≡ 0
 taken-first codec past moment n content m is =
     let s : Snapshot = after_settling codec past
-        (record (moved (latest past) moment) { window = after_placing n content (latest past).window }) in
+    (record (moved (latest past) moment) { window = after_placing n content (latest past).window }) in
     eqb-true (length (requests past m)) 0
     (filter-from (λ k. length (requests (s ∷ past) k) == 0) (missing (s ∷ past)) m
     (among-from (after_datagram codec past moment (Ok (n, content))).asked m is)).1
@@ -45,13 +45,13 @@ tick-again : (settings : Settings) (past : List Snapshot) (moment m : ℕ) →
 tick-again settings past moment m is =
     let now : ℕ = max (latest past).now moment in
     let passes : (nat_lt (length (requests past m)) MOST_REQUESTS && is_old settings.interval now (requests past m))
-        ≡ true = (filter-from (λ k.
-        nat_lt (length (requests past k)) MOST_REQUESTS && is_old settings.interval now (requests past k))
-        (missing past) m (among-from (after_tick settings past moment).asked m is)).1 in
+    ≡ true = (filter-from (λ k.
+    nat_lt (length (requests past k)) MOST_REQUESTS && is_old settings.interval now (requests past k))
+    (missing past) m (among-from (after_tick settings past moment).asked m is)).1 in
     let p : (nat_lt (length (requests past m)) MOST_REQUESTS ≡ true)
-        × (is_old settings.interval now (requests past m) ≡ true) =
-        and_parts (nat_lt (length (requests past m)) MOST_REQUESTS)
-        (is_old settings.interval now (requests past m)) passes in
+    × (is_old settings.interval now (requests past m) ≡ true) =
+    and_parts (nat_lt (length (requests past m)) MOST_REQUESTS)
+    (is_old settings.interval now (requests past m)) passes in
     (ltb-true (length (requests past m)) MOST_REQUESTS p.0, p.1)
 
 -- a pull asks for nothing
@@ -68,7 +68,7 @@ few-more s past n fewer few = by (is_among s.asked n) refl where
   by : (b : Bool) → is_among s.asked n ≡ b → length (requests (s ∷ past) n) ≤ MOST_REQUESTS
   by true is = let less : length (requests past n) < MOST_REQUESTS = fewer is in
       let e : length (requests (s ∷ past) n) ≡ suc (length (requests past n)) =
-          ap (λ (ms : List ℕ). length ms) (requests-more s past n is) in omega (arith, less, e)
+      ap (λ (ms : List ℕ). length ms) (requests-more s past n is) in omega (arith, less, e)
   by false is = let e : length (requests (s ∷ past) n) ≡ length (requests past n) =
       ap (λ (ms : List ℕ). length ms) (requests-none s past n is) in omega (arith, few, e)
 
@@ -158,13 +158,13 @@ asked-ticked settings past moment n is =
       not_passed = was.not_passed;
       not_lost = or_from (is_among lost n) (is_lost past n) (false_from_ne_true (is_among lost n) (λ d.
           let passes : ((length (requests past n) == MOST_REQUESTS) && is_old settings.interval now (requests past n))
-              ≡ true = (filter-from (λ k.
-              (length (requests past k) == MOST_REQUESTS) && is_old settings.interval now (requests past k))
-              (missing past) n (among-from lost n d)).1 in
+          ≡ true = (filter-from (λ k.
+          (length (requests past k) == MOST_REQUESTS) && is_old settings.interval now (requests past k))
+          (missing past) n (among-from lost n d)).1 in
           let ten : length (requests past n) ≡ MOST_REQUESTS =
-              eqb-true (length (requests past n)) MOST_REQUESTS
-              (and_parts (length (requests past n) == MOST_REQUESTS)
-              (is_old settings.interval now (requests past n)) passes).0 in
+          eqb-true (length (requests past n)) MOST_REQUESTS
+          (and_parts (length (requests past n) == MOST_REQUESTS)
+          (is_old settings.interval now (requests past n)) passes).0 in
           absurd (omega (arith, ten, fewer)))) was.not_lost;
     }
 
@@ -203,13 +203,13 @@ module _ (settings : Settings) (codec : Meaning) (h : List Event) (n : ℕ)
   never-taken octets content is =
       let window : Contents Content = (latest (snapshots settings codec h)).window in
       let fresh : IsFresh window n =
-          fresh-is window n (verdict-taken settings codec window octets n content is).fresh in
+      fresh-is window n (verdict-taken settings codec window octets n content is).fresh in
       let k : (k : ℕ) × (window.newest ≡ Some k) × (n < k) =
-          some-value (λ j. n < j) window.newest ((sane settings codec h).lost n lost) in
+      some-value (λ j. n < j) window.newest ((sane settings codec h).lost n lost) in
       let within : k.0 < n + WINDOW = leb-false (n + WINDOW) k.0 (ap (λ o. is_too_old o n) (sym k.1) ∙ fresh.young) in
       let below : n < k.0 = k.2 in
       let inside : is_inside window.newest n ≡ true =
-          ap (λ o. is_inside o n) k.1 ∙ order-window k.0 n within (omega (arith, below)) in
+      ap (λ o. is_inside o n) k.1 ∙ order-window k.0 n within (omega (arith, below)) in
       true≢false (sym lost ∙ sym ((sane settings codec h).dead n inside) ∙ fresh.alive)
 
 -- what was given up stays so, and no datagram is taken under it

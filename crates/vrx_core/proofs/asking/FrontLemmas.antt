@@ -42,16 +42,16 @@ reach_from-available zero from packets m above upto = absurd (omega (arith, abov
 reach_from-available (suc fuel) from packets m above upto =
     by (option_map_or is_no_media (at (from + 1) packets) false) refl upto
     (reach_from-available fuel (from + 1) packets m) where
-  by : (b : Bool) → option_map_or is_no_media (at (from + 1) packets) false ≡ b →
-      m ≤ cond b (reach_from fuel (from + 1) packets) from
-      → (from + 1 < m → m ≤ reach_from fuel (from + 1) packets → is_available m packets ≡ true) →
-      is_available m packets ≡ true
-  by true is most rest = elim (cases_lt (from + 1) m) [
-    | inl later ↦ rest later most
-    | inr here ↦ let same : m ≡ from + 1 = omega (arith, above, here) in
-        ap (λ k. is_available k packets) same ∙ no-media-there (at (from + 1) packets) is
-  ]
-  by false is most rest = absurd (omega (arith, above, most))
+      by : (b : Bool) → option_map_or is_no_media (at (from + 1) packets) false ≡ b →
+          m ≤ cond b (reach_from fuel (from + 1) packets) from
+          → (from + 1 < m → m ≤ reach_from fuel (from + 1) packets → is_available m packets ≡ true) →
+          is_available m packets ≡ true
+      by true is most rest = elim (cases_lt (from + 1) m) [
+        | inl later ↦ rest later most
+        | inr here ↦ let same : m ≡ from + 1 = omega (arith, above, here) in
+            ap (λ k. is_available k packets) same ∙ no-media-there (at (from + 1) packets) is
+      ]
+      by false is most rest = absurd (omega (arith, above, most))
 
 -- a number passed after an event was passed before it, or isn't above the last number pulled, or is available
 pub passed-either : (before last : Option ℕ) (packets : Packets) (m : ℕ) →
@@ -138,12 +138,12 @@ not-passed before last packets m none known absent = by (is_passed before m) ref
   by true is = passed-still before last packets m none is
   by false is = false_from_ne_true (is_passed (front_after before last packets) m)
       (λ h. elim (passed-either before last packets m h) [
-    | inl before' ↦ absurd (true≢false (sym before' ∙ is))
-    | inr other ↦ elim other [
-      | inl least ↦ absurd (true≢false (sym (upto last known least) ∙ is))
-      | inr there ↦ absurd (true≢false (sym there ∙ absent))
-    ]
-  ])
+        | inl before' ↦ absurd (true≢false (sym before' ∙ is))
+        | inr other ↦ elim other [
+          | inl least ↦ absurd (true≢false (sym (upto last known least) ∙ is))
+          | inr there ↦ absurd (true≢false (sym there ∙ absent))
+        ]
+      ])
 
 module _ (settings : Settings) (codec : Meaning) (h : List Event) (moment n : ℕ) (content : Content) where
   -- with a datagram that is taken no number becomes passed that isn't available after it
@@ -162,7 +162,7 @@ pub available-within : (settings : Settings) (codec : Meaning) (h : List Event) 
     IsInWindow (latest (snapshots settings codec h)).window.newest m
 available-within settings codec h m there =
     let c : (content : Content) × (at m (latest (snapshots settings codec h)).window.packets ≡ Some content) =
-        available-there (at m (latest (snapshots settings codec h)).window.packets) there in
+    available-there (at m (latest (snapshots settings codec h)).window.packets) there in
     available-inside settings codec h m c.0 c.1
 
 -- a number isn't above the newest
@@ -223,9 +223,13 @@ module _ (codec : Meaning) (place : ℕ → Option Place) (starts : Piece → Bo
       && last_alone (λ p. p.packet.marker) (piece ∷ pieces))
       (result_ok (codec.join (map (λ (p : Piece). p.part) (piece ∷ pieces))))
       (λ bytes. record {
-      first = piece.number; last = last; ts = piece.packet.ts; key =
-      list_any (λ p. p.part.key) (piece ∷ pieces); layers = place piece.number; bytes =
-      bytes }) last run (λ bytes. refl) h
+        first = piece.number;
+        last = last;
+        ts = piece.packet.ts;
+        key = list_any (λ p. p.part.key) (piece ∷ pieces);
+        layers = place piece.number;
+        bytes = bytes;
+      }) last run (λ bytes. refl) h
 
   stretch-last : (last : ℕ) (o : Option (List Piece)) → (o >>= run_of codec place starts last) ≡ Some run →
       run.last ≡ last
@@ -237,14 +241,14 @@ module _ (codec : Meaning) (place : ℕ → Option Place) (starts : Piece → Bo
   run-there c =
       let ns : List ℕ = map (λ (entry : ℕ × Content). entry.0) packets in
       let p : (first : ℕ) × Contains ns first
-          × Contains (filter_map (λ last. stretch codec packets first last >>= run_of codec place starts last) ns)
-          run = flat-from (λ first.
-          filter_map (λ last. stretch codec packets first last >>= run_of codec place starts last) ns) ns run c in
+      × Contains (filter_map (λ last. stretch codec packets first last >>= run_of codec place starts last) ns)
+      run = flat-from (λ first.
+      filter_map (λ last. stretch codec packets first last >>= run_of codec place starts last) ns) ns run c in
       let q : (last : ℕ) × Contains ns last
-          × ((stretch codec packets p.0 last >>= run_of codec place starts last) ≡ Some run) =
-          chosen-from (λ last. stretch codec packets p.0 last >>= run_of codec place starts last) ns run p.2 in
+      × ((stretch codec packets p.0 last >>= run_of codec place starts last) ≡ Some run) =
+      chosen-from (λ last. stretch codec packets p.0 last >>= run_of codec place starts last) ns run p.2 in
       let e : (entry : ℕ × Content) × Contains packets entry × (entry.0 ≡ q.0) =
-          map-from (λ (entry : ℕ × Content). entry.0) packets q.0 q.1 in
+      map-from (λ (entry : ℕ × Content). entry.0) packets q.0 q.1 in
       ap (λ m. is_available m packets) (stretch-last q.0 (stretch codec packets p.0 q.0) q.2 ∙ sym e.2)
       ∙ entry-available packets e.0 e.1
 

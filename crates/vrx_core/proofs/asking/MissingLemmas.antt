@@ -16,13 +16,13 @@ module _ (past : List Snapshot) (n : ℕ) where
   missing-from c =
       let s : Snapshot = latest past in
       let p : Contains (numbers_between s.window.first s.window.newest) n × (is_missing past n ≡ true) =
-          filter-from (is_missing past) (numbers_between s.window.first s.window.newest) n c in
+      filter-from (is_missing past) (numbers_between s.window.first s.window.newest) n c in
       let lies : LiesBetween s.window.first s.window.newest n = between-from s.window.first s.window.newest n p.0 in
       let two : ((not (is_available n s.window.packets) && not (is_passed s.front n)) ≡ true)
-          × (not (is_lost past n) ≡ true) =
-          and_parts (not (is_available n s.window.packets) && not (is_passed s.front n)) (not (is_lost past n)) p.1 in
+      × (not (is_lost past n) ≡ true) =
+      and_parts (not (is_available n s.window.packets) && not (is_passed s.front n)) (not (is_lost past n)) p.1 in
       let one : (not (is_available n s.window.packets) ≡ true) × (not (is_passed s.front n) ≡ true) =
-          and_parts (not (is_available n s.window.packets)) (not (is_passed s.front n)) two.0 in
+      and_parts (not (is_available n s.window.packets)) (not (is_passed s.front n)) two.0 in
       record {
         after_first = lies.after_first;
         before_newest = lies.before_newest;

@@ -50,9 +50,11 @@ from-to n (suc k) m least most = elim (cases_lt n m) [
 -- they rise
 pub from-rises : (n k : ℕ) → Rises (λ m. m) (numbers_from n k)
 from-rises n zero = tt
-from-rises n (suc k) = (all-of (λ m. n < m) (numbers_from (n + 1) k)
-    (λ m c. let p : (n + 1 ≤ m) × (m < n + 1 + k) = from-bounds (n + 1) k m c in omega (arith, p.0)),
-    from-rises (n + 1) k)
+from-rises n (suc k) = (
+  all-of (λ m. n < m) (numbers_from (n + 1) k)
+      (λ m c. let p : (n + 1 ≤ m) × (m < n + 1 + k) = from-bounds (n + 1) k m c in omega (arith, p.0)),
+  from-rises (n + 1) k,
+)
 
 -- the numbers from one on, below another
 pub below-bounds : (from below m : ℕ) → Contains (numbers_below from below) m → (from ≤ m) × (m < below)
@@ -78,7 +80,10 @@ between-from (Some f) None m c = absurd (Contains-empty m c)
 between-from (Some f) (Some k) m c =
     let p : (max (f + 1) (k + 1 - WINDOW) ≤ m) × (m < k) = below-bounds (max (f + 1) (k + 1 - WINDOW)) k m c in
     record {
-        after_first = omega (arith, p.0); before_newest = p.1; inside = (omega (arith, p.0), omega (arith, p.1)) }
+      after_first = omega (arith, p.0);
+      before_newest = p.1;
+      inside = (omega (arith, p.0), omega (arith, p.1));
+    }
 
 pub between-to : (first newest : Option ℕ) (m : ℕ) → LiesBetween first newest m →
     Contains (numbers_between first newest) m
@@ -106,7 +111,7 @@ left-from None before after m c = absurd (Contains-empty m c)
 left-from (Some f) None after m c = absurd (Contains-empty m c)
 left-from (Some f) (Some k) after m c =
     let p : (max f (k + 1 - WINDOW) ≤ m) × (m < after + 1 - WINDOW) =
-        below-bounds (max f (k + 1 - WINDOW)) (after + 1 - WINDOW) m c in
+    below-bounds (max f (k + 1 - WINDOW)) (after + 1 - WINDOW) m c in
     record { from_first = omega (arith, p.0); was_inside = omega (arith, p.0); left = omega (arith, p.1) }
 
 -- a number put among others
@@ -173,16 +178,22 @@ module _ {X : Type 0} where
   list_all-each test [] x all c = absurd (Contains-empty x c)
   list_all-each test (y ∷ xs) x all c =
       let p : (test y ≡ true) × (list_all test xs ≡ true) = and_parts (test y) (list_all test xs) all in
-      elim (Contains-either y xs x c) [ inl same ↦ ap test (sym same)
-      ∙ p.0 | inr later ↦ list_all-each test xs x p.1 later ]
+      elim (Contains-either y xs x c) [
+        | inl same ↦ ap test (sym same)
+            ∙ p.0
+        | inr later ↦ list_all-each test xs x p.1 later
+      ]
 
   -- what is in one list after another
   pub append-from : (xs ys : List X) (z : X) → Contains (xs ++ ys) z → Contains xs z ⊎ Contains ys z
   append-from [] ys z c = inr c
   append-from (x ∷ xs) ys z c = elim (Contains-either x (xs ++ ys) z c) [
     | inl same ↦ inl (subst (λ w. Contains (x ∷ xs) w) same (Contains-head x xs))
-    | inr later ↦ elim (append-from xs ys z later) [ inl left ↦ inl
-        (Contains-tail x xs z left) | inr right ↦ inr right ]
+    | inr later ↦ elim (append-from xs ys z later) [
+      | inl left ↦ inl
+          (Contains-tail x xs z left)
+      | inr right ↦ inr right
+    ]
   ]
 
   pub append-left : (xs ys : List X) (z : X) → Contains xs z → Contains (xs ++ ys) z

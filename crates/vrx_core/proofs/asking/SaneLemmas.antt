@@ -151,9 +151,9 @@ module _ (settings : Settings) (past : List Snapshot) (moment : ℕ) where
     ];
     inside = λ n h. elim (or_cases (is_among ticked.lost n) (is_dead n (latest past).window.dead)
         (sym (among-withs ticked.lost (latest past).window.dead n) ∙ h)) [
-      | inl new ↦ inside-is (latest past).window.newest n (tick-lost-missing n new).inside
-      | inr old ↦ sane.inside n old
-    ];
+          | inl new ↦ inside-is (latest past).window.newest n (tick-lost-missing n new).inside
+          | inr old ↦ sane.inside n old
+        ];
     dead = λ n h. among-withs ticked.lost (latest past).window.dead n
         ∙ ap (λ b. is_among ticked.lost n || b) (sane.dead n h);
     there = sane.there;
@@ -251,7 +251,7 @@ module _ (codec : Meaning) (past : List Snapshot) (moment n : ℕ) (content : Co
         let e : k ≡ p.0 = sym (same_some new_newest k is) ∙ p.2 in
         let less : n < p.0 = p.3 in
         let c : (c : Content) × (at p.0 (latest past).window.packets ≡ Some c) =
-            available-there (at p.0 (latest past).window.packets) (sane.there p.0 p.1) in
+        available-there (at p.0 (latest past).window.packets) (sane.there p.0 p.1) in
         let upto : new_newest ≡ p.0 = p.2 in
         ap (λ j. is_available j (entries_with new_newest n content (latest past).window.packets)) e
         ∙ ap is_some (placed_old new_newest n p.0 content c.0 (latest past).window.packets

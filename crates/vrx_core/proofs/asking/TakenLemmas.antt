@@ -33,7 +33,7 @@ pub gap-bounds : (newest : Option ℕ) (n m : ℕ) → Contains (gap_of newest n
 gap-bounds None n m c = let p : (n ≤ m) × (m < n) = below-bounds n n m c in absurd (omega (arith, p.0, p.1))
 gap-bounds (Some k) n m c =
     let p : (max (k + 1) (max k n + 1 - WINDOW) ≤ m) × (m < max k n) =
-        below-bounds (max (k + 1) (max k n + 1 - WINDOW)) (max k n) m c in
+    below-bounds (max (k + 1) (max k n + 1 - WINDOW)) (max k n) m c in
     (omega (arith, p.0), omega (arith, p.0), p.1)
 
 pub gap-to : (newest : Option ℕ) (n m : ℕ) → IsSomeAnd newest (λ k. k < m) → newest_with newest n < m + WINDOW →
@@ -51,8 +51,11 @@ pub rises-append : (xs ys : List ℕ) → Rises (λ m. m) xs → Rises (λ m. m)
 rises-append [] ys a b below = b
 rises-append (x ∷ xs) ys a b below = (
   all-of (λ z. x < z) (xs ++ ys)
-      (λ z c. elim (append-from xs ys z c) [ inl left ↦ all-in (λ w. x < w) xs z a.0 left | inr right ↦ below x z
-      (Contains-head x xs) right ]),
+      (λ z c. elim (append-from xs ys z c) [
+        | inl left ↦ all-in (λ w. x < w) xs z a.0 left
+        | inr right ↦ below x z
+            (Contains-head x xs) right
+      ]),
   rises-append xs ys a.1 b (λ u v c d. below u v (Contains-tail x xs u c) d),
 )
 
@@ -85,15 +88,23 @@ module _ (codec : Meaning) (past : List Snapshot) (moment n : ℕ) (content : Co
   -- what is missing is so before the event gives numbers up, and after
   pub missing-asked : (m : ℕ) → IsMissing (before_requests ∷ past) m → IsMissing (after ∷ past) m
   missing-asked m is = record {
-      after_first = is.after_first; before_newest = is.before_newest; inside = is.inside; absent =
-      is.absent; not_passed = is.not_passed; not_lost =
-      taken-lost-is codec past moment n content m is.inside.0 ∙ is.not_lost }
+    after_first = is.after_first;
+    before_newest = is.before_newest;
+    inside = is.inside;
+    absent = is.absent;
+    not_passed = is.not_passed;
+    not_lost = taken-lost-is codec past moment n content m is.inside.0 ∙ is.not_lost;
+  }
 
   missing-asks : (m : ℕ) → IsMissing (after ∷ past) m → IsMissing (before_requests ∷ past) m
   missing-asks m is = record {
-      after_first = is.after_first; before_newest = is.before_newest; inside = is.inside; absent =
-      is.absent; not_passed = is.not_passed; not_lost =
-      sym (taken-lost-is codec past moment n content m is.inside.0) ∙ is.not_lost }
+    after_first = is.after_first;
+    before_newest = is.before_newest;
+    inside = is.inside;
+    absent = is.absent;
+    not_passed = is.not_passed;
+    not_lost = sym (taken-lost-is codec past moment n content m is.inside.0) ∙ is.not_lost;
+  }
 
   -- what stays available, and what doesn't become so
   available-stays : (m : ℕ) → in_window top m ≡ true → is_available m win.packets ≡ true →
@@ -109,11 +120,11 @@ module _ (codec : Meaning) (past : List Snapshot) (moment n : ℕ) (content : Co
       is_available m (entries_with top n content win.packets) ≡ false
   absent-stays m other absent = ap is_some (find-after_placing top n m content win.packets)
       ∙ by (eq_by_cmp nat_cmp m n) refl (in_window top m) where
-    by : (b : Bool) → eq_by_cmp nat_cmp m n ≡ b → (c : Bool) →
-        is_some (cond b (Some content) (cond c (at m win.packets) None)) ≡ false
-    by true is c = absurd (other (same_key m n is))
-    by false is true = absent
-    by false is false = refl
+        by : (b : Bool) → eq_by_cmp nat_cmp m n ≡ b → (c : Bool) →
+            is_some (cond b (Some content) (cond c (at m win.packets) None)) ≡ false
+        by true is c = absurd (other (same_key m n is))
+        by false is true = absent
+        by false is false = refl
 
   -- the missing numbers that are left: not this one, in the window, and not passed
   abbrev others : List ℕ
@@ -134,14 +145,17 @@ module _ (codec : Meaning) (past : List Snapshot) (moment n : ℕ) (content : Co
   left-is : (m : ℕ) → Contains missing_left m → IsLeft m
   left-is m c =
       let p : Contains others_inside m × (not (is_passed after.front m) ≡ true) =
-          filter-from (λ k. not (is_passed after.front k)) others_inside m c in
+      filter-from (λ k. not (is_passed after.front k)) others_inside m c in
       let q : Contains others m × (nat_lt (top - WINDOW) m ≡ true) =
-          filter-from (λ k. nat_lt (top - WINDOW) k) others m p.0 in
+      filter-from (λ k. nat_lt (top - WINDOW) k) others m p.0 in
       let r : Contains (missing past) m × (not (m == n) ≡ true) =
-          filter-from (λ k. not (k == n)) (missing past) m q.0 in
+      filter-from (λ k. not (k == n)) (missing past) m q.0 in
       record {
-          was = missing-from past m r.0; other = eqb-false m n (not-true (m == n) r.1); within =
-          ltb-true (top - WINDOW) m q.1; not_passed = not-true (is_passed after.front m) p.1 }
+        was = missing-from past m r.0;
+        other = eqb-false m n (not-true (m == n) r.1);
+        within = ltb-true (top - WINDOW) m q.1;
+        not_passed = not-true (is_passed after.front m) p.1;
+      }
 
   left-to : (m : ℕ) → IsLeft m → Contains missing_left m
   left-to m is = filter-to (λ k. not (is_passed after.front k)) others_inside m
@@ -226,8 +240,11 @@ module _ (codec : Meaning) (past : List Snapshot) (moment n : ℕ) (content : Co
             | inl above ↦ inr (gap-to win.newest n m
                 (subst (λ o. IsSomeAnd o (λ k. k < m)) (sym p.3) above) within below)
             | inr most ↦ inl (record {
-                was = old most; other = other; within = omega (arith, within, below, beyond_it); not_passed =
-                is.not_passed })
+              was = old most;
+              other = other;
+              within = omega (arith, within, below, beyond_it);
+              not_passed = is.not_passed;
+            })
           ] where
             inside_top : in_window top m ≡ true
             inside_top = order-window top m within (omega (arith, below))
@@ -246,8 +263,11 @@ module _ (codec : Meaning) (past : List Snapshot) (moment n : ℕ) (content : Co
 
             old : m ≤ p.1 → IsMissing past m
             old most =
-                let less : m < p.1 = elim (cases_lt m p.1) [ inl less ↦ less | inr more ↦ absurd
-                    (not_newest (omega (arith, most, more))) ] in
+                let less : m < p.1 = elim (cases_lt m p.1) [
+                  | inl less ↦ less
+                  | inr more ↦ absurd
+                      (not_newest (omega (arith, most, more)))
+                ] in
                 let c : top ≡ max p.1 n = ap (λ o. newest_with o n) p.3 in
                 let a : unwrap_or win.first n ≡ p.0 = first-is win.first n p.0 p.2 in
                 record {
@@ -313,7 +333,7 @@ module _ (codec : Meaning) (past : List Snapshot) (moment n : ℕ) (content : Co
           apart : (x y : ℕ) → Contains missing_left x → Contains (gap_of win.newest n) y → x < y
           apart x y c d =
               let a : (k : ℕ) × (win.newest ≡ Some k) × (x < k) =
-                  some-value (λ k. x < k) win.newest (left-is x c).was.before_newest in
+              some-value (λ k. x < k) win.newest (left-is x c).was.before_newest in
               let b : a.0 < y = subst (λ o. IsSomeAnd o (λ k. k < y)) a.1 (gap-bounds win.newest n y d).0 in
               let e : x < a.0 = a.2 in
               omega (arith, b, e)
@@ -334,7 +354,7 @@ module _ (codec : Meaning) (past : List Snapshot) (moment n : ℕ) (content : Co
     gap-never : (m : ℕ) → Contains (gap_of win.newest n) m → requests past m ≡ []
     gap-never m c =
         let k : (k : ℕ) × (win.newest ≡ Some k) × (k < m) =
-            some-value (λ j. j < m) win.newest (gap-bounds win.newest n m c).0 in
+        some-value (λ j. j < m) win.newest (gap-bounds win.newest n m c).0 in
         requests-never past m (above-not-asked k.0 m k.1 k.2)
 
     -- each is asked for now
@@ -349,8 +369,8 @@ module _ (codec : Meaning) (past : List Snapshot) (moment n : ℕ) (content : Co
       asked-never : (m : ℕ) → Contains after.asked m → IsLeft m → ⊥
       asked-never m c left =
           let none : (length (requests past m) == 0) ≡ true =
-              (filter-from (λ k. length (requests (before_requests ∷ past) k) == 0)
-              (missing (before_requests ∷ past)) m c).1 in
+          (filter-from (λ k. length (requests (before_requests ∷ past) k) == 0)
+          (missing (before_requests ∷ past)) m c).1 in
           let zero_is : length (requests past m) ≡ 0 = eqb-true (length (requests past m)) 0 none in
           let once : 1 ≤ length (requests past m) = (counted m (missing-to past m left.was)).once in
           omega (arith, zero_is, once)
@@ -363,15 +383,15 @@ module _ (codec : Meaning) (past : List Snapshot) (moment n : ℕ) (content : Co
             back : (m : ℕ) → Contains after.asked m → Contains (gap_of win.newest n) m
             back m c = elim (missing-split m
                 (missing-asked m (taken-asked-missing codec past moment n content m (among-to after.asked m c)))) [
-              | inl left ↦ absurd (asked-never m c left)
-              | inr gap ↦ gap
-            ]
+                  | inl left ↦ absurd (asked-never m c left)
+                  | inr gap ↦ gap
+                ]
 
       left-same : (m : ℕ) → Contains missing_left m → ask_of past m ≡ ask_of (after ∷ past) m
       left-same m c =
           let none : is_among after.asked m ≡ false =
-              false_from_ne_true (is_among after.asked m)
-              (λ is. asked-never m (among-from after.asked m is) (left-is m c)) in
+          false_from_ne_true (is_among after.asked m)
+          (λ is. asked-never m (among-from after.asked m is) (left-is m c)) in
           ask-is past m ∙ ap (ask_from m) (sym (requests-none after past m none)) ∙ sym (ask-is (after ∷ past) m)
 
       gap-first : (m : ℕ) → Contains (gap_of win.newest n) m →
@@ -402,45 +422,46 @@ module _ (codec : Meaning) (past : List Snapshot) (moment n : ℕ) (content : Co
         ≡ (not (is_passed after.front m) && not (is_lost past m))
     lost-same m c = ap (λ b. not b && not (is_dead m win.dead)) (sym (same m absent))
         ∙ ap (λ b. not (is_passed after.front m) && not b) (dead_is (cases_lt newest.0 m)) where
-      leaves : Leaves (Some (unwrap_or win.first n)) win.newest top m
-      leaves = left-from (Some (unwrap_or win.first n)) win.newest top m c
+          leaves : Leaves (Some (unwrap_or win.first n)) win.newest top m
+          leaves = left-from (Some (unwrap_or win.first n)) win.newest top m c
 
-      newest : (k : ℕ) × (win.newest ≡ Some k) × (k < m + WINDOW)
-      newest = some-value (λ k. k < m + WINDOW) win.newest leaves.was_inside
+          newest : (k : ℕ) × (win.newest ≡ Some k) × (k < m + WINDOW)
+          newest = some-value (λ k. k < m + WINDOW) win.newest leaves.was_inside
 
-      is_left : m + WINDOW ≤ top
-      is_left = leaves.left
+          is_left : m + WINDOW ≤ top
+          is_left = leaves.left
 
-      top_is : top ≡ max newest.0 n
-      top_is = ap (λ o. newest_with o n) newest.1
+          top_is : top ≡ max newest.0 n
+          top_is = ap (λ o. newest_with o n) newest.1
 
-      inside_k : newest.0 < m + WINDOW
-      inside_k = newest.2
+          inside_k : newest.0 < m + WINDOW
+          inside_k = newest.2
 
-      not_inside : (b : Bool) → in_window top m ≡ b → b ≡ false
-      not_inside true is = let p : top < m + WINDOW =
-          ltb-true top (m + WINDOW) (and_parts (nat_lt top (m + WINDOW)) (nat_le m top) is).0 in
-          absurd (omega (arith, is_left, p))
-      not_inside false is = refl
+          not_inside : (b : Bool) → in_window top m ≡ b → b ≡ false
+          not_inside true is = let p : top < m + WINDOW =
+              ltb-true top (m + WINDOW) (and_parts (nat_lt top (m + WINDOW)) (nat_le m top) is).0 in
+              absurd (omega (arith, is_left, p))
+          not_inside false is = refl
 
-      absent : is_available m (entries_with top n content win.packets) ≡ false
-      absent = ap is_some (find-after_placing top n m content win.packets) ∙ by (eq_by_cmp nat_cmp m n) refl
-          ∙ ap (λ b. is_some (cond b (at m win.packets) None)) (not_inside (in_window top m) refl) where
-        by : (b : Bool) → eq_by_cmp nat_cmp m n ≡ b →
-            is_some (cond b (Some content) (cond (in_window top m) (at m win.packets) None)) ≡ is_some
-            (cond (in_window top m) (at m win.packets) None)
-        by true is = let e : m ≡ n = same_key m n is in absurd (omega (arith, e, is_left, top_is, inside_k))
-        by false is = refl
+          absent : is_available m (entries_with top n content win.packets) ≡ false
+          absent = ap is_some (find-after_placing top n m content win.packets) ∙ by (eq_by_cmp nat_cmp m n) refl
+              ∙ ap (λ b. is_some (cond b (at m win.packets) None)) (not_inside (in_window top m) refl) where
+                by : (b : Bool) → eq_by_cmp nat_cmp m n ≡ b →
+                    is_some (cond b (Some content) (cond (in_window top m) (at m win.packets) None)) ≡ is_some
+                    (cond (in_window top m) (at m win.packets) None)
+                by true is = let e : m ≡ n = same_key m n is in absurd (omega (arith, e, is_left, top_is, inside_k))
+                by false is = refl
 
-      above_inside : newest.0 < m → is_inside win.newest m ≡ true → ⊥
-      above_inside above is = let p : m ≤ newest.0 =
-          inside-upto newest.0 m (sym (ap (λ o. is_inside o m) newest.1) ∙ is) in absurd (omega (arith, above, p))
+          above_inside : newest.0 < m → is_inside win.newest m ≡ true → ⊥
+          above_inside above is = let p : m ≤ newest.0 =
+              inside-upto newest.0 m (sym (ap (λ o. is_inside o m) newest.1) ∙ is) in absurd (omega (arith, above, p))
 
-      dead_is : (newest.0 < m) ⊎ (m ≤ newest.0) → is_dead m win.dead ≡ is_lost past m
-      dead_is (inl above) =
-          false_from_ne_true (is_dead m win.dead) (λ d. above_inside above (sane.inside m d))
-          ∙ sym (above-not-lost newest.0 m newest.1 above)
-      dead_is (inr upto') = sane.dead m (ap (λ o. is_inside o m) newest.1 ∙ order-window newest.0 m inside_k upto')
+          dead_is : (newest.0 < m) ⊎ (m ≤ newest.0) → is_dead m win.dead ≡ is_lost past m
+          dead_is (inl above) =
+              false_from_ne_true (is_dead m win.dead) (λ d. above_inside above (sane.inside m d))
+              ∙ sym (above-not-lost newest.0 m newest.1 above)
+          dead_is (inr upto') =
+              sane.dead m (ap (λ o. is_inside o m) newest.1 ∙ order-window newest.0 m inside_k upto')
 
     -- so they are what the event gives up
     pub lost-is : filter (λ m. not (is_passed (latest past).front m) && not (is_dead m win.dead))

@@ -1,5 +1,5 @@
 -- The greatest of numbers, as some are put in and others are left out.
-use Rattle.std.proofs.Common.{◌≡◌, ℕ, ◌+◌, ◌<◌, ◌≤◌, ◌⊎◌, max, Bool, true, false, cond, List, [], ◌∷◌, Option, Some, None, refl, sym, ◌∙◌, ap, arith, inl, inr}
+use Rattle.std.proofs.Common.{◌≡◌, ℕ, ◌+◌, ◌<◌, ◌≤◌, max, Bool, true, false, cond, List, [], ◌∷◌, Option, Some, None, refl, sym, ◌∙◌, ap, arith, inl, inr}
 use Rattle.std.specs.Prelude.{nat_lt}
 use Rattle.std.specs.List.{filter}
 use Rattle.std.proofs.lemmas.Bool.{cases_lt, lt-ltb, ltb-true, ltb-false}
@@ -7,9 +7,8 @@ use Rattle.vrx_num.specs.Extended.{greater}
 use Rattle.vrx_codec.specs.declared.run.Run.{Run}
 use Rattle.vrx_window.specs.Numbered.{Numbered}
 use Rattle.vrx_core.specs.relation.Order.{greatest_of, put_by}
-use Rattle.vrx_core.specs.relation.Frames.{runs_from, with_run}
-use Rattle.vrx_core.specs.inside.Kept.{AreKept, IsKept, greatest_with, key_numbers, runs_under, unless_below}
-use Rattle.vrx_core.proofs.buffer.RunLemmas.{keys-from, keys-with, runs-later}
+use Rattle.vrx_core.specs.inside.Kept.{AreKept, greatest_with, key_numbers, runs_under, unless_below}
+use Rattle.vrx_core.proofs.buffer.RunLemmas.{keys-from, runs-later}
 
 -- the order of two numbers doesn't matter
 greater-comm : (o : Option ℕ) (a b : ℕ) → greater (greater o a) b ≡ greater (greater o b) a
@@ -28,9 +27,9 @@ greatest-put n (k ∷ ks) = either (nat_lt n k) (greatest-put n ks) where
 unless-above : (from n : ℕ) → from ≤ n → unless_below from (Some n) ≡ Some n
 unless-above from n le =
     ap (λ b. cond b None (Some n)) (elim (nat_lt n from) as (λ b. nat_lt n from ≡ b → b ≡ false) [
-  | true ↦ λ is. absurd (let less : n < from = ltb-true n from is in omega arith)
-  | false ↦ λ is. refl
-] refl ∙ refl)
+      | true ↦ λ is. absurd (let less : n < from = ltb-true n from is in omega arith)
+      | false ↦ λ is. refl
+    ] refl ∙ refl)
 
 unless-less : (from n : ℕ) → n < from → unless_below from (Some n) ≡ None
 unless-less from n less = ap (λ b. cond b None (Some n)) (lt-ltb n from less)

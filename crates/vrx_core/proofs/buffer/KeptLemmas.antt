@@ -71,8 +71,10 @@ module _ (from : ℕ) (ring : Numbered Run) (keys : List ℕ) (kept : IsKept fro
       (runs-high from ring.newest ring.entries kept.named kept.near kept.inside) in
       record {
         rise = kept-rise;
-        inside = λ k d lt. (within-low from (slice_index_or runs k d).first (low k d lt),
-            within-high (slice_index_or runs k d).first (from + WINDOW) (high k d lt));
+        inside = λ k d lt. (
+          within-low from (slice_index_or runs k d).first (low k d lt),
+          within-high (slice_index_or runs k d).first (from + WINDOW) (high k d lt),
+        );
       }
 
   pub kept-later : (last : ℕ) → from ≤ last + 1 → IsKept (last + 1) ring (filter (λ m. nat_lt last m) keys)

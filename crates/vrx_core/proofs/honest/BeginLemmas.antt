@@ -40,7 +40,7 @@ module _ (settings : Settings) (codec : Meaning) (sender : Sender) (honest : Hon
       i ≡ honest.place g + size settings codec sender honest g → (s : IsSent settings codec sender honest i) → s.k ≡ 0
   behind_last i g frame is behind s =
       let t : Travels settings codec sender g frame (honest.place g) (honest.parts g) =
-          frame_travels settings codec sender honest g frame is in
+      frame_travels settings codec sender honest g frame is in
       let some : 0 < size settings codec sender honest g = t.some in
       let here : honest.place s.f + s.k ≡ i = s.here in
       let within : s.k < size settings codec sender honest s.f = s.within in
@@ -48,16 +48,16 @@ module _ (settings : Settings) (codec : Meaning) (sender : Sender) (honest : Hon
         | inl same ↦
             let place_is : honest.place s.f ≡ honest.place g = ap honest.place same in
             let size_is : size settings codec sender honest s.f ≡ size settings codec sender honest g =
-                ap (size settings codec sender honest) same in
+            ap (size settings codec sender honest) same in
             absurd (omega arith)
         | inr other ↦ elim other [
           | inl before ↦
               let order : honest.place s.f + size settings codec sender honest s.f ≤ honest.place g =
-                  honest.in_order s.f g before (slice_get_within sender.frames g frame is) in
+              honest.in_order s.f g before (slice_get_within sender.frames g frame is) in
               absurd (omega arith)
           | inr after ↦
               let order : honest.place g + size settings codec sender honest g ≤ honest.place s.f =
-                  honest.in_order g s.f after (slice_get_within sender.frames s.f s.frame s.sent) in
+              honest.in_order g s.f after (slice_get_within sender.frames s.f s.frame s.sent) in
               omega arith
         ]
       ]
@@ -67,7 +67,7 @@ module _ (settings : Settings) (codec : Meaning) (sender : Sender) (honest : Hon
       (s : IsSent settings codec sender honest i) → s.k + 1 ≡ size settings codec sender honest s.f
   before_first i f frame is before s =
       let t : Travels settings codec sender f frame (honest.place f) (honest.parts f) =
-          frame_travels settings codec sender honest f frame is in
+      frame_travels settings codec sender honest f frame is in
       let some : 0 < size settings codec sender honest f = t.some in
       let here : honest.place s.f + s.k ≡ i = s.here in
       let within : s.k < size settings codec sender honest s.f = s.within in
@@ -78,11 +78,11 @@ module _ (settings : Settings) (codec : Meaning) (sender : Sender) (honest : Hon
         | inr other ↦ elim other [
           | inl earlier ↦
               let order : honest.place s.f + size settings codec sender honest s.f ≤ honest.place f =
-                  honest.in_order s.f f earlier (slice_get_within sender.frames f frame is) in
+              honest.in_order s.f f earlier (slice_get_within sender.frames f frame is) in
               omega arith
           | inr later ↦
               let order : honest.place f + size settings codec sender honest f ≤ honest.place s.f =
-                  honest.in_order f s.f later (slice_get_within sender.frames s.f s.frame s.sent) in
+              honest.in_order f s.f later (slice_get_within sender.frames s.f s.frame s.sent) in
               absurd (omega arith)
         ]
       ]
@@ -104,7 +104,7 @@ module _ (settings : Settings) (codec : Meaning) (sender : Sender) (honest : Hon
       slice_get sender.packets j ≡ Some (Media f k text) → ends_frame (contents.Media text) ≡ t.carried.packet.marker
   ends-is j f k text t there =
       let same : text ≡ t.carried.text =
-          ap text_sent (same_Some (Media f k text) (Media t.f t.k t.carried.text) (sym there ∙ t.part.sent)) in
+      ap text_sent (same_Some (Media f k text) (Media t.f t.k t.carried.text) (sym there ∙ t.part.sent)) in
       ap (λ x. ends_frame (contents.Media x)) same
       ∙ ap (λ o. option_map_or (λ packet. packet.marker) o false) t.part.media.reads
 
@@ -113,9 +113,9 @@ module _ (settings : Settings) (codec : Meaning) (sender : Sender) (honest : Hon
       ends_frame (content_sent packet) ≡ true → i ≡ j + 1 → (s : IsSent settings codec sender honest i) → s.k ≡ 0
   ends_first j i (Media f k text) there ends next s =
       let t : IsSent settings codec sender honest j =
-          packet_sent settings codec sender honest j (Media f k text) there tt in
+      packet_sent settings codec sender honest j (Media f k text) there tt in
       let last : t.k + 1 ≡ size settings codec sender honest t.f =
-          t.part.marker.0 (sym (ends-is j f k text t there) ∙ ends) in
+      t.part.marker.0 (sym (ends-is j f k text t there) ∙ ends) in
       let here : honest.place t.f + t.k ≡ j = t.here in
       behind_last i t.f t.frame t.sent (omega arith) s
   ends_first j i Empty there ends next s = after_empty j i there (sym next) s
@@ -125,7 +125,7 @@ module _ (settings : Settings) (codec : Meaning) (sender : Sender) (honest : Hon
       slice_get sender.packets j ≡ Some packet → j + 1 ≡ honest.place f → ends_frame (content_sent packet) ≡ true
   first_ends j f frame (Media g k text) is there next =
       let t : IsSent settings codec sender honest j =
-          packet_sent settings codec sender honest j (Media g k text) there tt in
+      packet_sent settings codec sender honest j (Media g k text) there tt in
       ends-is j g k text t there ∙ t.part.marker.1 (before_first j f frame is next t)
   first_ends j f frame Empty is there next = refl
 
@@ -142,11 +142,15 @@ module _ (settings : Settings) (codec : Meaning) (sender : Sender) (honest : Hon
   packet_at js packets n content kept is =
       let k = kept-there sender js n packets kept (ap is_some is) in
       let p : (packet : SentPacket) × (slice_get sender.packets k.0 ≡ Some packet)
-          × (at n packets ≡ Some (content_sent packet)) =
-          some_there (λ packet. at n packets ≡ Some (content_sent packet)) (slice_get sender.packets k.0) k.2 in
+      × (at n packets ≡ Some (content_sent packet)) =
+      some_there (λ packet. at n packets ≡ Some (content_sent packet)) (slice_get sender.packets k.0) k.2 in
       record {
-          i = k.0; numbered = k.1; packet = p.0; sent = p.1; content_is =
-          same_Some content (content_sent p.0) (sym is ∙ p.2) }
+        i = k.0;
+        numbered = k.1;
+        packet = p.0;
+        sent = p.1;
+        content_is = same_Some content (content_sent p.0) (sym is ∙ p.2);
+      }
 
   -- if at some time a number stood right after the end of a frame, its packet is the first part of a frame
   pub began_first : (js : List ℕ) (past : List Snapshot) (i n : ℕ) (s : IsSent settings codec sender honest i) →
@@ -154,18 +158,18 @@ module _ (settings : Settings) (codec : Meaning) (sender : Sender) (honest : Hon
   began_first js [] i n s from were numbered began = absurd (cc)
   began_first js (t ∷ past) i n s from were numbered began =
       elim (or_cases (stands_after_end n t.window.packets) (began_after_end (times past) n) began) [
-    | inl here ↦
-        let both : (is_available n t.window.packets ≡ true)
+        | inl here ↦
+            let both : (is_available n t.window.packets ≡ true)
             × (option_map_or ends_frame (at (n - 1) t.window.packets) false ≡ true) = and_parts _ _ here in
-        let c : (content : Content) × (at (n - 1) t.window.packets ≡ Some content) × (ends_frame content ≡ true) =
+            let c : (content : Content) × (at (n - 1) t.window.packets ≡ Some content) × (ends_frame content ≡ true) =
             there_tested ends_frame (at (n - 1) t.window.packets) both.1 in
-        let p : IsPacketAt js (n - 1) c.0 = packet_at js t.window.packets (n - 1) c.0 were.0 c.1 in
-        let behind : IsNumber sender js (p.i + 1) n =
+            let p : IsPacketAt js (n - 1) c.0 = packet_at js t.window.packets (n - 1) c.0 were.0 c.1 in
+            let behind : IsNumber sender js (p.i + 1) n =
             number_later sender js p.i (n - 1) 1 (p.i + 1) n p.numbered refl (omega arith) in
-        ends_first p.i i p.packet p.sent (sym (ap ends_frame p.content_is) ∙ c.2)
-        (one-place sender js i (p.i + 1) n numbered behind) s
-    | inr earlier ↦ began_first js past i n s from were.1 numbered earlier
-  ]
+            ends_first p.i i p.packet p.sent (sym (ap ends_frame p.content_is) ∙ c.2)
+            (one-place sender js i (p.i + 1) n numbered behind) s
+        | inr earlier ↦ began_first js past i n s from were.1 numbered earlier
+      ]
 
   -- if the number of a frame's first part and the one before were available at some time, it stood right after the
   -- end of a frame
@@ -175,15 +179,16 @@ module _ (settings : Settings) (codec : Meaning) (sender : Sender) (honest : Hon
       stands_after_end n packets ≡ true
   beside_behind js f frame n packets is from kept numbered here before =
       and_from _ _ here (by_content (at (n - 1) packets) refl before) where
-    by_content : (o : Option Content) → at (n - 1) packets ≡ o → is_some o ≡ true →
-        option_map_or ends_frame o false ≡ true
-    by_content None none h = absurd (true≢false (sym h))
-    by_content (Some content) there h =
-        let p : IsPacketAt js (n - 1) content = packet_at js packets (n - 1) content kept there in
-        let behind : IsNumber sender js (p.i + 1) n =
+        by_content : (o : Option Content) → at (n - 1) packets ≡ o → is_some o ≡ true →
+            option_map_or ends_frame o false ≡ true
+        by_content None none h = absurd (true≢false (sym h))
+        by_content (Some content) there h =
+            let p : IsPacketAt js (n - 1) content = packet_at js packets (n - 1) content kept there in
+            let behind : IsNumber sender js (p.i + 1) n =
             number_later sender js p.i (n - 1) 1 (p.i + 1) n p.numbered refl (omega arith) in
-        ap ends_frame p.content_is
-        ∙ first_ends p.i f frame p.packet is p.sent (one-place sender js (p.i + 1) (honest.place f) n behind numbered)
+            ap ends_frame p.content_is
+            ∙ first_ends p.i f frame p.packet is p.sent
+            (one-place sender js (p.i + 1) (honest.place f) n behind numbered)
 
   pub were_behind : (js : List ℕ) (f : ℕ) (frame : SentFrame) (n : ℕ) (past : List Snapshot) →
       slice_get sender.frames f ≡ Some frame → 1 ≤ n → WereKept sender js past →
@@ -218,9 +223,9 @@ module _ (settings : Settings) (codec : Meaning) (sender : Sender) (honest : Hon
       c.part.start ≡ Yes
   says_yes f count k i frame c part says =
       let s : SaysStart codec (Media f k c.text) =
-          some_holds (SaysStart codec) (slice_get sender.packets i) (Media f k c.text) part.sent says in
+      some_holds (SaysStart codec) (slice_get sender.packets i) (Media f k c.text) part.sent says in
       let packet_is : s.0 ≡ c.packet = same_Some s.0 c.packet (sym s.2 ∙ part.media.reads) in
       let part_is : s.1 ≡ c.part =
-          same_ok {E = PartFault} s.1 c.part
-          (sym s.3 ∙ ap (λ (p : Packet). codec.read p.payload) packet_is ∙ part.media.part_reads) in
+      same_ok {E = PartFault} s.1 c.part
+      (sym s.3 ∙ ap (λ (p : Packet). codec.read p.payload) packet_is ∙ part.media.part_reads) in
       ap (λ (p : Part). p.start) (sym part_is) ∙ s.4

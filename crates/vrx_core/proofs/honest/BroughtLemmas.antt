@@ -25,10 +25,13 @@ module _ (settings : Settings) (codec : Meaning) (window : Contents Content) (oc
   unfolding held
   verdict_taken o n content is e =
       let t : IsTaken settings codec window octets n content =
-          verdict-taken settings codec window octets n content e in
-      let same : t.packet ≡ o = ap (λ r. held r o) (sym t.is ∙ is) in
-      (sym (ap (λ (x : Original). extended_number window.newest x.wire) same) ∙ t.number, sym t.content_is
-      ∙ ap (λ (x : Original). x.content) same, t.fresh)
+      verdict-taken settings codec window octets n content e in
+      let same : t.packet ≡ o = ap (λ r. held r o) (sym t.is ∙ is) in (
+        sym (ap (λ (x : Original). extended_number window.newest x.wire) same) ∙ t.number,
+        sym t.content_is
+            ∙ ap (λ (x : Original). x.content) same,
+        t.fresh,
+      )
 
   -- and so it is if that number is fresh
   pub verdict_take : (o : Original) (n : ℕ) → original settings codec octets ≡ Ok o →

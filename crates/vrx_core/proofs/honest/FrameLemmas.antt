@@ -78,8 +78,10 @@ any_map f test (x ∷ xs) = ap (λ b. test (f x) || b) (any_map f test xs)
 -- the first number, or one after it
 first_or_later : (n m : ℕ) → n ≤ m → (n ≡ m) ⊎ (n + 1 ≤ m)
 first_or_later n m from =
-    elim (cases_order n m) [ inl same ↦ inl same | inr
-    other ↦ elim other [ inl less ↦ inr (omega arith) | inr more ↦ absurd (omega arith) ] ]
+    elim (cases_order n m) [
+      | inl same ↦ inl same
+      | inr other ↦ elim other [ inl less ↦ inr (omega arith) | inr more ↦ absurd (omega arith) ]
+    ]
 
 -- each number of pieces is available
 pub pieces-present : (codec : Meaning) (packets : Packets) (n m : ℕ) (pieces : List Piece) →
@@ -99,8 +101,8 @@ module _ (settings : Settings) (codec : Meaning) (sender : Sender) (js : List �
   at-part f frame count k i n c numbered part available =
       let p = kept-there sender js n packets kept available in
       let there : IsSomeAnd (slice_get sender.packets i) (λ packet. at n packets ≡ Some (content_sent packet)) =
-          subst (λ (x : ℕ). IsSomeAnd (slice_get sender.packets x)
-          (λ packet. at n packets ≡ Some (content_sent packet))) (one-place sender js p.0 i n p.1 numbered) p.2 in
+      subst (λ (x : ℕ). IsSomeAnd (slice_get sender.packets x)
+      (λ packet. at n packets ≡ Some (content_sent packet))) (one-place sender js p.0 i n p.1 numbered) p.2 in
       some_holds (λ packet. at n packets ≡ Some (content_sent packet)) (slice_get sender.packets i)
       (Media f k c.text) part.sent there
 
@@ -110,8 +112,8 @@ module _ (settings : Settings) (codec : Meaning) (sender : Sender) (js : List �
       p.packet ≡ c.packet
   piece-packet f frame count k i n c p numbered part piece =
       let same : piece.text ≡ c.text =
-          ap media_text (same_Some (contents.Media piece.text) (contents.Media c.text)
-          (sym piece.media ∙ at-part f frame count k i n c numbered part (ap is_some piece.media))) in
+      ap media_text (same_Some (contents.Media piece.text) (contents.Media c.text)
+      (sym piece.media ∙ at-part f frame count k i n c numbered part (ap is_some piece.media))) in
       same_Some p.packet c.packet (sym piece.reads ∙ ap read same ∙ part.media.reads)
 
   piece-part : (f : ℕ) (frame : SentFrame) (count k i n : ℕ) (c : CarriedPart) (p : Piece) → IsNumber sender js i n →
@@ -132,24 +134,24 @@ module _ (settings : Settings) (codec : Meaning) (sender : Sender) (js : List �
       ap (λ x. x ∷ []) (piece-part f frame count k i n c p numbered parts.0 pieces.0)
   same_said f frame count k i n last (c ∷ []) (p ∷ q ∷ ps) some some' of to parts pieces numbered marker =
       let marked : p.packet.marker ≡ true =
-          ap (λ (x : Packet). x.marker) (piece-packet f frame count k i n c p numbered parts.0 pieces.0)
-          ∙ parts.0.marker.1 (omega arith) in
+      ap (λ (x : Packet). x.marker) (piece-packet f frame count k i n c p numbered parts.0 pieces.0)
+      ∙ parts.0.marker.1 (omega arith) in
       let at_last : p.number ≡ last = marker.0.0 marked in
       let here : p.number ≡ n = pieces.0.number in
       absurd (omega arith)
   same_said f frame count k i n last (c ∷ d ∷ cs) (p ∷ []) some some' of to parts pieces numbered marker =
       let here : p.number ≡ n = pieces.0.number in
       let marked : c.packet.marker ≡ true =
-          sym (ap (λ (x : Packet). x.marker) (piece-packet f frame count k i n c p numbered parts.0 pieces.0))
-          ∙ marker.0.1 (omega arith) in
+      sym (ap (λ (x : Packet). x.marker) (piece-packet f frame count k i n c p numbered parts.0 pieces.0))
+      ∙ marker.0.1 (omega arith) in
       let end : k + 1 ≡ count = parts.0.marker.0 marked in
       absurd (omega arith)
   same_said f frame count k i n last (c ∷ d ∷ cs) (p ∷ q ∷ ps) some some' of to parts pieces numbered marker =
       let first : p.part ≡ c.part = piece-part f frame count k i n c p numbered parts.0 pieces.0 in
       let rest : said (q ∷ ps) ≡ meant (d ∷ cs) =
-          same_said f frame count (k + 1) (i + 1) (n + 1) last (d ∷ cs) (q ∷ ps) (omega arith) (omega arith)
-          (omega arith) (omega arith) parts.1 pieces.1
-          (number_later sender js i n 1 (i + 1) (n + 1) numbered refl refl) marker.1 in
+      same_said f frame count (k + 1) (i + 1) (n + 1) last (d ∷ cs) (q ∷ ps) (omega arith) (omega arith)
+      (omega arith) (omega arith) parts.1 pieces.1
+      (number_later sender js i n 1 (i + 1) (n + 1) numbered refl refl) marker.1 in
       ap (λ x. x ∷ said (q ∷ ps)) first ∙ ap (λ xs. c.part ∷ xs) rest
 
   module _ (honest : HonestSender settings codec sender) where
@@ -175,9 +177,9 @@ module _ (settings : Settings) (codec : Meaning) (sender : Sender) (js : List �
         IsPiece codec packets n p → is_start front began p ≡ true → s.k ≡ 0
     begins_first front began n i p s first numbered piece start =
         let says : p.part.start ≡ s.carried.part.start =
-            ap (λ (x : Part). x.start)
-            (piece-part s.f s.frame (size settings codec sender honest s.f) s.k i n s.carried p numbered s.part
-            piece) in
+        ap (λ (x : Part). x.start)
+        (piece-part s.f s.frame (size settings codec sender honest s.f) s.k i n s.carried p numbered s.part
+        piece) in
         start_first front began n i n s first (omega arith) (ap is_some piece.media) numbered
         (ap (λ x. begins x (is_behind front began n)) (sym says)
         ∙ ap (λ (m : ℕ). begins p.part.start (is_behind front began m)) (sym piece.number) ∙ start)
@@ -203,32 +205,32 @@ module _ (settings : Settings) (codec : Meaning) (sender : Sender) (js : List �
         IsFrameRun sender js s.f run
     run_of_frame front began run r i s p ps first_behind is numbered =
         let t : Travels settings codec sender s.f s.frame (honest.place s.f) (honest.parts s.f) =
-            frame_travels settings codec sender honest s.f s.frame s.sent in
+        frame_travels settings codec sender honest s.f s.frame s.sent in
         let pieces : ArePieces codec packets run.first (p ∷ ps) =
-            subst (ArePieces codec packets run.first) is r.from_first in
+        subst (ArePieces codec packets run.first) is r.from_first in
         let to : run.first + length (p ∷ ps) ≡ run.last + 1 = sym (ap (λ xs. run.first + length xs) is) ∙ r.to_last in
         let start : AllByRecursion (λ q. (is_start front began q ≡ true) ↔ (q.number ≡ run.first)) (p ∷ ps) =
-            subst (AllByRecursion (λ q. (is_start front began q ≡ true) ↔ (q.number ≡ run.first))) is
-            (recursion_from_All _ r.pieces r.start) in
+        subst (AllByRecursion (λ q. (is_start front began q ≡ true) ↔ (q.number ≡ run.first))) is
+        (recursion_from_All _ r.pieces r.start) in
         let marker : AllByRecursion (λ q. (q.packet.marker ≡ true) ↔ (q.number ≡ run.last)) (p ∷ ps) =
-            subst (AllByRecursion (λ q. (q.packet.marker ≡ true) ↔ (q.number ≡ run.last))) is
-            (recursion_from_All _ r.pieces r.marker) in
+        subst (AllByRecursion (λ q. (q.packet.marker ≡ true) ↔ (q.number ≡ run.last))) is
+        (recursion_from_All _ r.pieces r.marker) in
         let ts : AllByRecursion (λ q. q.packet.ts ≡ run.ts) (p ∷ ps) =
-            subst (AllByRecursion (λ q. q.packet.ts ≡ run.ts)) is (recursion_from_All _ r.pieces r.ts) in
+        subst (AllByRecursion (λ q. q.packet.ts ≡ run.ts)) is (recursion_from_All _ r.pieces r.ts) in
         let first : s.k ≡ 0 =
-            begins_first front began run.first i p s first_behind numbered pieces.0 (start.0.1 pieces.0.number) in
+        begins_first front began run.first i p s first_behind numbered pieces.0 (start.0.1 pieces.0.number) in
         let here : honest.place s.f + s.k ≡ i = s.here in
         let begin : IsNumber sender js (honest.place s.f) run.first =
-            number_later sender js i run.first 0 (honest.place s.f) run.first numbered (omega arith) (omega arith) in
+        number_later sender js i run.first 0 (honest.place s.f) run.first numbered (omega arith) (omega arith) in
         let some : 0 < length (honest.parts s.f) = t.some in
         let same : said (p ∷ ps) ≡ meant (honest.parts s.f) =
-            same_said s.f s.frame (length (honest.parts s.f)) 0 (honest.place s.f) run.first run.last
-            (honest.parts s.f) (p ∷ ps) some (omega arith) (omega arith) to t.each pieces begin marker in
+        same_said s.f s.frame (length (honest.parts s.f)) 0 (honest.place s.f) run.first run.last
+        (honest.parts s.f) (p ∷ ps) some (omega arith) (omega arith) to t.each pieces begin marker in
         let long : length (p ∷ ps) ≡ length (honest.parts s.f) = sym (length-map (p ∷ ps) (λ (q : Piece). q.part))
-            ∙ ap length same ∙ length-map (honest.parts s.f) (λ (c : CarriedPart). c.part) in
+        ∙ ap length same ∙ length-map (honest.parts s.f) (λ (c : CarriedPart). c.part) in
         let packet_is : p.packet ≡ s.carried.packet =
-            piece-packet s.f s.frame
-            (size settings codec sender honest s.f) s.k i run.first s.carried p numbered s.part pieces.0 in
+        piece-packet s.f s.frame
+        (size settings codec sender honest s.f) s.k i run.first s.carried p numbered s.part pieces.0 in
         record {
           frame = s.frame;
           sent = s.sent;
@@ -259,16 +261,16 @@ module _ (settings : Settings) (codec : Meaning) (sender : Sender) (js : List �
           absurd (omega arith)
       by_pieces (p ∷ ps) is =
           let piece : IsPiece codec packets run.first p =
-              (subst (ArePieces codec packets run.first) is r.from_first).0 in
+          (subst (ArePieces codec packets run.first) is r.from_first).0 in
           let q = kept-there sender js run.first packets kept (ap is_some piece.media) in
           let there : (packet : SentPacket) × (slice_get sender.packets q.0 ≡ Some packet)
-              × (at run.first packets ≡ Some (content_sent packet)) =
-              some_there (λ packet. at run.first packets ≡ Some (content_sent packet))
-              (slice_get sender.packets q.0) q.2 in
+          × (at run.first packets ≡ Some (content_sent packet)) =
+          some_there (λ packet. at run.first packets ≡ Some (content_sent packet))
+          (slice_get sender.packets q.0) q.2 in
           let s : IsSent settings codec sender honest q.0 =
-              packet_sent settings codec sender honest q.0 there.0 there.1
-              (media_sent there.0 piece.text
-              (same_Some (content_sent there.0) (contents.Media piece.text) (sym there.2 ∙ piece.media))) in
+          packet_sent settings codec sender honest q.0 there.0 there.1
+          (media_sent there.0 piece.text
+          (same_Some (content_sent there.0) (contents.Media piece.text) (sym there.2 ∙ piece.media))) in
           (s.f, run_of_frame front began run r q.0 s p ps first_behind is q.1)
 
   -- the pieces of parts, under these numbers
@@ -301,8 +303,8 @@ module _ (settings : Settings) (codec : Meaning) (sender : Sender) (js : List �
         part_reads = parts.0.media.part_reads;
       },
       pieces-available (k + 1) (i + 1) (n + 1) cs parts.1
-      (number_later sender js i n 1 (i + 1) (n + 1) numbered refl refl)
-      (λ m from upto. available m (omega arith) (omega arith)),
+          (number_later sender js i n 1 (i + 1) (n + 1) numbered refl refl)
+          (λ m from upto. available m (omega arith) (omega arith)),
     )
 
     -- they have one timestamp
@@ -317,8 +319,11 @@ module _ (settings : Settings) (codec : Meaning) (sender : Sender) (js : List �
         AllByRecursion (λ p. (p.packet.marker ≡ true) ↔ (p.number ≡ last)) (pieces_of n cs)
     last_marked k i n last [] parts to = tt
     last_marked k i n last (c ∷ cs) parts to = (
-      (λ marked. let end : k + 1 ≡ count = parts.0.marker.0 marked in
-      omega arith, λ same. parts.0.marker.1 (omega arith)),
+      (
+        λ marked. let end : k + 1 ≡ count = parts.0.marker.0 marked in
+            omega arith,
+        λ same. parts.0.marker.1 (omega arith),
+      ),
       last_marked (k + 1) (i + 1) (n + 1) last cs parts.1 (omega arith),
     )
 
@@ -326,8 +331,13 @@ module _ (settings : Settings) (codec : Meaning) (sender : Sender) (js : List �
   abbrev pub frame_run : SentFrame → ℕ → List CarriedPart → Run
   frame_run frame first parts =
       record {
-      first = first; last = first + length parts - 1; ts = frame.ts; key = frame.key; layers = None; bytes =
-      frame.bytes }
+        first = first;
+        last = first + length parts - 1;
+        ts = frame.ts;
+        key = frame.key;
+        layers = None;
+        bytes = frame.bytes;
+      }
 
   module _ (honest : HonestSender settings codec sender) where
     -- only the first part of a frame is a start
@@ -343,27 +353,38 @@ module _ (settings : Settings) (codec : Meaning) (sender : Sender) (js : List �
         tt
     first_starts front began f frame k i n first
         (c ∷ cs) there first_behind begin parts of at_i at_n numbered available = (
-      (λ s. let zeroth : k ≡ 0 =
-      start_first honest front began first i n sent first_behind (omega arith)
-      (available n (omega arith) (omega arith)) numbered s in omega arith, by_place k refl),
-      first_starts front began f frame (k + 1) (i + 1) (n + 1) first cs there first_behind begin parts.1 (omega arith)
-      (omega arith) (omega arith) (number_later sender js i n 1 (i + 1) (n + 1) numbered refl refl)
-      (λ m from upto. available m (omega arith) (omega arith)),
-    ) where
-      sent : IsSent settings codec sender honest i
-      sent = record {
-          f = f; k = k; frame = frame; carried = c; sent = there; within = omega arith; here = omega arith; part =
-          parts.0 }
+          (
+            λ s. let zeroth : k ≡ 0 =
+                start_first honest front began first i n sent first_behind (omega arith)
+                (available n (omega arith) (omega arith)) numbered s in omega arith,
+            by_place k refl,
+          ),
+          first_starts front began f frame (k + 1) (i + 1) (n + 1) first cs there first_behind begin parts.1
+              (omega arith)
+              (omega arith) (omega arith) (number_later sender js i n 1 (i + 1) (n + 1) numbered refl refl)
+              (λ m from upto. available m (omega arith) (omega arith)),
+        ) where
+          sent : IsSent settings codec sender honest i
+          sent = record {
+            f = f;
+            k = k;
+            frame = frame;
+            carried = c;
+            sent = there;
+            within = omega arith;
+            here = omega arith;
+            part = parts.0;
+          }
 
-      by_place : (x : ℕ) → k ≡ x → n ≡ first → begins c.part.start (is_behind front began n) ≡ true
-      by_place zero is same =
-          let at_place : i ≡ honest.place f = omega arith in
-          ap (λ (m : ℕ). begins c.part.start (is_behind front began m)) same
-          ∙ begin c (subst (λ (x : ℕ).
-          IsPart settings codec sender f frame (size settings codec sender honest f) x (honest.place f) c) is
-          (subst (λ (x : ℕ). IsPart settings codec sender f frame (size settings codec sender honest f) k x c)
-          at_place parts.0))
-      by_place (suc x) is same = absurd (omega arith)
+          by_place : (x : ℕ) → k ≡ x → n ≡ first → begins c.part.start (is_behind front began n) ≡ true
+          by_place zero is same =
+              let at_place : i ≡ honest.place f = omega arith in
+              ap (λ (m : ℕ). begins c.part.start (is_behind front began m)) same
+              ∙ begin c (subst (λ (x : ℕ).
+              IsPart settings codec sender f frame (size settings codec sender honest f) x (honest.place f) c) is
+              (subst (λ (x : ℕ). IsPart settings codec sender f frame (size settings codec sender honest f) k x c)
+              at_place parts.0))
+          by_place (suc x) is same = absurd (omega arith)
 
     -- a frame each of whose packets is available, and which begins with its first part, is a run
     pub frame-run : (front : Option ℕ) (began : ℕ → Bool) (f : ℕ) (frame : SentFrame) (first : ℕ) →
@@ -376,13 +397,13 @@ module _ (settings : Settings) (codec : Meaning) (sender : Sender) (js : List �
     frame-run front began f frame first is first_behind begin numbered available =
         let cs : List CarriedPart = honest.parts f in
         let t : Travels settings codec sender f frame (honest.place f) cs =
-            frame_travels settings codec sender honest f frame is in
+        frame_travels settings codec sender honest f frame is in
         let some : 0 < length cs = t.some in
         let many : length (pieces_of first cs) ≡ length cs = as_many first cs in
         let same : said (pieces_of first cs) ≡ meant cs = said_parts first cs in
         let agree : list_any (λ p. p.part.key) (pieces_of first cs) ≡ list_any (λ c. c.part.key) cs =
-            sym (any_map (λ p. p.part) (λ x. x.key) (pieces_of first cs)) ∙ ap (list_any (λ (x : Part). x.key)) same
-            ∙ any_map (λ c. c.part) (λ x. x.key) cs in
+        sym (any_map (λ p. p.part) (λ x. x.key) (pieces_of first cs)) ∙ ap (list_any (λ (x : Part). x.key)) same
+        ∙ any_map (λ c. c.part) (λ x. x.key) cs in
         record {
           pieces = pieces_of first cs;
           from_first = pieces-available f frame (length cs) 0 (honest.place f) first cs t.each numbered available;
@@ -401,7 +422,7 @@ module _ (settings : Settings) (codec : Meaning) (sender : Sender) (js : List �
                 list_any-from (λ p. p.part.key) (pieces_of first cs)
                 (agree ∙ list_any-to (λ c. c.part.key) cs c.0 c.1 c.2),
             λ p. t.key.1 (list_any-from (λ c. c.part.key) cs
-            (sym agree ∙ list_any-to (λ q. q.part.key) (pieces_of first cs) p.0 p.1 p.2)),
+                (sym agree ∙ list_any-to (λ q. q.part.key) (pieces_of first cs) p.0 p.1 p.2)),
           );
           layers = refl;
           joins = ap codec.join same ∙ t.joins;

@@ -50,9 +50,9 @@ module _ (sender : Sender) where
         (i : ℕ) × IsNumber sender js i n × (slice_get sender.packets i ≡ Some Empty)
     empty_there n h =
         let c : (content : Content) × (at n packets ≡ Some content) × (is_no_media content ≡ true) =
-            there_tested is_no_media (at n packets) h in
+        there_tested is_no_media (at n packets) h in
         let p : IsPacketAt settings codec sender honest js n c.0 =
-            packet_at settings codec sender honest js packets n c.0 kept c.1 in
+        packet_at settings codec sender honest js packets n c.0 kept c.1 in
         (p.i, p.numbered, p.sent ∙ ap Some (no_media_empty p.packet (sym (ap is_no_media p.content_is) ∙ c.2)))
 
     -- what is reached from a number is reached over empty packets
@@ -62,21 +62,22 @@ module _ (sender : Sender) where
     reach_from-empty (suc fuel) from =
         by_next (reach_from-empty fuel (from + 1))
         (option_map_or is_no_media (at (from + 1) packets) false) refl where
-      by_next : (from + 1 ≤ reach_from fuel (from + 1) packets)
-          × AreEmptyTo js (from + 1) (reach_from fuel (from + 1) packets) → (b : Bool) →
-          option_map_or is_no_media (at (from + 1) packets) false ≡ b →
-          (from ≤ (if b then reach_from fuel (from + 1) packets else from))
-          × AreEmptyTo js from (if b then reach_from fuel (from + 1) packets else from)
-      by_next rest false is = (omega arith, λ m above upto. absurd (omega arith))
-      by_next rest true is =
-          let further : from + 1 ≤ reach_from fuel (from + 1) packets = rest.0 in (
-            omega arith,
-            λ m above upto. elim (cases_order m (from + 1)) [
-              | inl same ↦ let e =
-                  empty_there (from + 1) is in (e.0, subst (λ (x : ℕ). IsNumber sender js e.0 x) (sym same) e.1, e.2)
-              | inr other ↦ elim other [ inl less ↦ absurd (omega arith) | inr more ↦ rest.1 m more upto ]
-            ],
-          )
+          by_next : (from + 1 ≤ reach_from fuel (from + 1) packets)
+              × AreEmptyTo js (from + 1) (reach_from fuel (from + 1) packets) → (b : Bool) →
+              option_map_or is_no_media (at (from + 1) packets) false ≡ b →
+              (from ≤ (if b then reach_from fuel (from + 1) packets else from))
+              × AreEmptyTo js from (if b then reach_from fuel (from + 1) packets else from)
+          by_next rest false is = (omega arith, λ m above upto. absurd (omega arith))
+          by_next rest true is =
+              let further : from + 1 ≤ reach_from fuel (from + 1) packets = rest.0 in (
+                omega arith,
+                λ m above upto. elim (cases_order m (from + 1)) [
+                  | inl same ↦ let e =
+                      empty_there (from + 1) is in
+                      (e.0, subst (λ (x : ℕ). IsNumber sender js e.0 x) (sym same) e.1, e.2)
+                  | inr other ↦ elim other [ inl less ↦ absurd (omega arith) | inr more ↦ rest.1 m more upto ]
+                ],
+              )
 
     -- and from the greater of the front and the last number pulled
     reach_from-front : (fuel last front : ℕ) → AreEmptyTo js last front →
@@ -84,8 +85,8 @@ module _ (sender : Sender) where
         × AreEmptyTo js last (reach_from fuel (max front last) packets)
     reach_from-front fuel last front empty =
         let r : (max front last ≤ reach_from fuel (max front last) packets)
-            × AreEmptyTo js (max front last) (reach_from fuel (max front last) packets) =
-            reach_from-empty fuel (max front last) in
+        × AreEmptyTo js (max front last) (reach_from fuel (max front last) packets) =
+        reach_from-empty fuel (max front last) in
         let further : max front last ≤ reach_from fuel (max front last) packets = r.0 in (
           omega arith,
           λ m above upto. elim (before_or_after m (max front last)) [
@@ -94,8 +95,11 @@ module _ (sender : Sender) where
           ],
         ) where
           before_or_after : (n m : ℕ) → (n ≤ m) ⊎ (m < n)
-          before_or_after n m = elim (cases_order n m) [ inl same ↦ inl
-              (omega arith) | inr other ↦ elim other [ inl less ↦ inl (omega arith) | inr more ↦ inr more ] ]
+          before_or_after n m = elim (cases_order n m) [
+            | inl same ↦ inl
+                (omega arith)
+            | inr other ↦ elim other [ inl less ↦ inl (omega arith) | inr more ↦ inr more ]
+          ]
 
     -- the front after an event, with the last number pulled after it
     pub front-moves : (before old : Option ℕ) (last : ℕ) → IsFrontOf js old before → IfSome old (λ l. l ≤ last) →

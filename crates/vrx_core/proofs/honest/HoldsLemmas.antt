@@ -55,9 +55,12 @@ module _ (settings : Settings) (codec : Meaning) (sender : Sender) (honest : Hon
           sent = p.0.sent;
           is = p.0.is;
           numbered = record {
-              from = n.from; to = n.to; spans = n.spans; first_is =
-              IsNumber-grown sender i js n.from run.first n.first_is; last_is =
-              IsNumber-grown sender i js n.to run.last n.last_is };
+            from = n.from;
+            to = n.to;
+            spans = n.spans;
+            first_is = IsNumber-grown sender i js n.from run.first n.first_is;
+            last_is = IsNumber-grown sender i js n.to run.last n.last_is;
+          };
         },
         pulled_grown i js fs runs p.1,
       )
@@ -68,16 +71,16 @@ module _ (settings : Settings) (codec : Meaning) (sender : Sender) (honest : Hon
       slice_get sender.frames g ≡ Some frame → IsNumber sender js (honest.place g) n → last < n → f < g
   frame_after js f g old frame first last n there numbered is place_is beyond =
       let less : numbered.to < honest.place g =
-          IsNumber-below sender js numbered.to (honest.place g) last n numbered.last_is place_is beyond in
+      IsNumber-below sender js numbered.to (honest.place g) last n numbered.last_is place_is beyond in
       let ends : numbered.to + 1 ≡ honest.place f + size settings codec sender honest f =
-          (one_span settings codec sender honest f old numbered.from numbered.to there numbered.spans).1 in
+      (one_span settings codec sender honest f old numbered.from numbered.to there numbered.spans).1 in
       let upto : f ≤ g = frame_upto settings codec sender honest f g frame is
-          (slice_get_within sender.frames f old there) (omega arith) in
+      (slice_get_within sender.frames f old there) (omega arith) in
       let t : Travels settings codec sender f old (honest.place f) (honest.parts f) =
-          frame_travels settings codec sender honest f old there in
+      frame_travels settings codec sender honest f old there in
       let some : 0 < size settings codec sender honest f = t.some in
       let apart : f ≡ g → ⊥ = λ same. let place_is : honest.place f ≡ honest.place g =
-          ap honest.place same in omega arith in
+      ap honest.place same in omega arith in
       omega arith
 
   -- the places from which a frame may come now
@@ -93,7 +96,7 @@ module _ (settings : Settings) (codec : Meaning) (sender : Sender) (honest : Hon
   bound_upto js (f ∷ fs) [] g frame run p is numbered beyond = absurd p
   bound_upto js (f ∷ fs) (old ∷ runs) g frame run p is numbered beyond =
       let less : f < g = frame_after js f g p.0.sent frame old.first old.last run.first p.0.is p.0.numbered is
-          numbered (stands-beyond (Some old.last) run beyond) in
+      numbered (stands-beyond (Some old.last) run beyond) in
       omega arith
 
   -- before the first event

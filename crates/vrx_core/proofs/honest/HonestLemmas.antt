@@ -120,7 +120,7 @@ module _ (meant : GivesMeant) (law : ReadsPacket) (are : RunsAre) (settings : Se
     unfolding snapshots packets_taken reply
     other_step moment octets holds aside =
         let v : (left : NotTaken) × (verdict settings codec (latest past).window octets ≡ Err left) =
-            verdict_aside settings codec (latest past).window octets aside in
+        verdict_aside settings codec (latest past).window octets aside in
         record {
           after = fs;
           place = None;
@@ -179,7 +179,7 @@ module _ (meant : GivesMeant) (law : ReadsPacket) (are : RunsAre) (settings : Se
           IfSome (last_pulled (latest past).pulled) (λ last. last ≤ run.last)
       later_end run given =
           let rises : (run.first ≤ run.last) × IfSome (last_pulled (latest past).pulled) (λ last. last < run.first) =
-              given-rises are codec past run (standing_is settings codec h) given in
+          given-rises are codec past run (standing_is settings codec h) given in
           further (last_pulled (latest past).pulled) rises.0 rises.1 where
             further : (o : Option ℕ) → run.first ≤ run.last → IfSome o (λ last. last < run.first) →
                 IfSome o (λ last. last ≤ run.last)
@@ -193,9 +193,9 @@ module _ (meant : GivesMeant) (law : ReadsPacket) (are : RunsAre) (settings : Se
           let s : Snapshot = latest past in
           let there = answer-given (last_pulled s.pulled) s.front s.standing run given in
           let p : (f : ℕ) × IsFrameRun sender (packets_taken settings codec h origins) f run =
-              frame_is are settings codec sender honest h origins fs holds run there.0 in
+          frame_is are settings codec sender honest h origins fs holds run there.0 in
           let chain : (g : ℕ) → InChain sender p.0 g → Contains fs g =
-              answer_chain are settings codec sender honest h origins fs holds run given p.0 p.1 in
+          answer_chain are settings codec sender honest h origins fs holds run given p.0 p.1 in
           record {
             after = p.0 ∷ fs;
             place = Some p.0;
@@ -211,13 +211,13 @@ module _ (meant : GivesMeant) (law : ReadsPacket) (are : RunsAre) (settings : Se
                 (answer_least are settings codec sender honest h origins fs holds run given p.0 p.1);
             gives = subst (λ (o : Option Run).
                 Gives sender (bound fs) fs (p.0 ∷ fs) (Some p.0) (ToPull (pulled_of o))) (sym given) (
-              answer_later are settings codec sender honest h origins fs holds run given p.0 p.1,
-              refl,
-              answer_sent are settings codec sender honest h origins fs holds run given p.0 p.1,
-              answer_key are settings codec sender honest h origins fs holds run given p.0 p.1,
-              chain,
-              answer_references are settings codec sender honest h origins fs holds run given p.0 p.1,
-            );
+                  answer_later are settings codec sender honest h origins fs holds run given p.0 p.1,
+                  refl,
+                  answer_sent are settings codec sender honest h origins fs holds run given p.0 p.1,
+                  answer_key are settings codec sender honest h origins fs holds run given p.0 p.1,
+                  chain,
+                  answer_references are settings codec sender honest h origins fs holds run given p.0 p.1,
+                );
           }
 
       -- a pull, by what it answers
@@ -271,8 +271,11 @@ module _ (meant : GivesMeant) (law : ReadsPacket) (are : RunsAre) (settings : Se
       rise = (gives.0, subst (λ xs. RiseFrom (bound xs) (places_of rest.frames_given)) gives.1 rest.rise);
       sent = (gives.2, rest.sent);
       from_key = gives.3;
-      references = (gives.4, gives.5,
-          subst (λ xs. AfterReferences sender xs (places_of rest.frames_given)) gives.1 rest.references);
+      references = (
+        gives.4,
+        gives.5,
+        subst (λ xs. AfterReferences sender xs (places_of rest.frames_given)) gives.1 rest.references,
+      );
     }
 
   -- the rest of an honest call
@@ -301,12 +304,16 @@ module _ (meant : GivesMeant) (law : ReadsPacket) (are : RunsAre) (settings : Se
       HonestCall settings codec sender events origins (replies settings codec [] events)
   honest-call events origins network =
       let call : CallFrom [] [] [] events origins (replies settings codec [] events) =
-          call_from events [] [] origins [] first_holds network in
+      call_from events [] [] origins [] first_holds network in
       record {
-          frames_given = call.frames_given; answers = call.answers; rising =
-          rising 0 (places_of call.frames_given) call.rise; sent = call.sent; from_key =
-          call.from_key refl; after_references = call.references; losses =
-          losses-asked settings codec sender events [] [] origins network }
+        frames_given = call.frames_given;
+        answers = call.answers;
+        rising = rising 0 (places_of call.frames_given) call.rise;
+        sent = call.sent;
+        from_key = call.from_key refl;
+        after_references = call.references;
+        losses = losses-asked settings codec sender events [] [] origins network;
+      }
 
 -- every honest call is answered rightly
 pub honest_call : GivesMeant → ReadsPacket → RunsAre → HonestCallHolds

@@ -26,7 +26,7 @@ module _ (meant : GivesMeant) (law : ReadsPacket) (are : RunsAre) (settings : Se
     frames = λ run stands. frame_is are settings codec sender honest h origins fs holds run stands;
     runs = λ f complete.
         let r : IsRunOf are settings codec sender honest h origins fs holds f complete.first =
-            complete_run are settings codec sender honest h origins fs holds f complete in
+        complete_run are settings codec sender honest h origins fs holds f complete in
         (r.run, r.there, r.is_frame);
   }
 
@@ -40,7 +40,7 @@ module _ (meant : GivesMeant) (law : ReadsPacket) (are : RunsAre) (settings : Se
   runs_from (e ∷ es) h origins [] fs holds network = absurd network
   runs_from (e ∷ es) h origins (o ∷ os) fs holds network =
       let s : Step meant law are settings codec sender good honest h origins fs e o =
-          step meant law are settings codec sender good honest h origins fs holds e o network.0 in
+      step meant law are settings codec sender good honest h origins fs holds e o network.0 in
       (runs_rightly h origins fs holds, runs_from es (e ∷ h) (o ∷ origins) os s.after s.holds network.1)
 
 -- in every honest call the runs are the sender's frames

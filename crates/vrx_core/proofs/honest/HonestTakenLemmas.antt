@@ -81,9 +81,12 @@ module _ (meant : GivesMeant) (settings : Settings) (codec : Meaning) (sender : 
   brought-answer js newest near h =
       let x : (x : ℕ × Content) × (v ≡ Ok x) = ok_value v h in
       let took : (extended_number window.newest (wire_of sender i) ≡ Some x.0.0) × (x.0.1 ≡ content_sent b.packet)
-          × (would_of window x.0.0 ≡ placings.Fresh) = taken_is x.0.0 x.0.1 x.1 in
-      (x.0.0, taken-number meant sender js window.newest i x.0.0 newest near took.0, ap what_of x.1
-      ∙ ap (answer_taken x.0.0) took.1)
+      × (would_of window x.0.0 ≡ placings.Fresh) = taken_is x.0.0 x.0.1 x.1 in (
+        x.0.0,
+        taken-number meant sender js window.newest i x.0.0 newest near took.0,
+        ap what_of x.1
+            ∙ ap (answer_taken x.0.0) took.1,
+      )
 
   -- the first packet is taken
   first-packets_taken : Keeps sender [] window.packets → window.newest ≡ None → is_ok v ≡ true
@@ -103,17 +106,17 @@ module _ (meant : GivesMeant) (settings : Settings) (codec : Meaning) (sender : 
     later-packets_taken : ToTake sender lost i (j ∷ js) → is_ok v ≡ true
     later-packets_taken to_take =
         let e : (n : ℕ) × IsNumber sender (j ∷ js) i n × Extends m (wire_of sender i) n =
-            is_number-extends sender j js m i from number to_take.in_reach.0 to_take.in_reach.1 in
+        is_number-extends sender j js m i from number to_take.in_reach.0 to_take.in_reach.1 in
         let given : extended_number window.newest (wire_of sender i) ≡ Some e.0 =
-            later-number ∙ (meant m (wire_of sender i) e.0 (omega arith) (wire_below sender i)).1 e.2 in
+        later-number ∙ (meant m (wire_of sender i) e.0 (omega arith) (wire_below sender i)).1 e.2 in
         let less : m < e.0 + WINDOW =
-            near-number sender (j ∷ js) i (greatest (j ∷ js)) e.0 m WINDOW e.1 number to_take.in_reach.1 in
+        near-number sender (j ∷ js) i (greatest (j ∷ js)) e.0 m WINDOW e.1 number to_take.in_reach.1 in
         let old : is_too_old window.newest e.0 ≡ false =
-            ap (λ (o : Option ℕ). is_too_old o e.0) newest ∙ lt-leb (e.0 + WINDOW) m less in
+        ap (λ (o : Option ℕ). is_too_old o e.0) newest ∙ lt-leb (e.0 + WINDOW) m less in
         let again : is_available e.0 window.packets ≡ false =
-            false_from_ne_true _ (λ h.
-            to_take.not_taken (subst (λ (x : ℕ). Contains (j ∷ js) x)
-            (one-place sender (j ∷ js) (keeps.from e.0 h).0 i e.0 (keeps.from e.0 h).2 e.1) (keeps.from e.0 h).1)) in
+        false_from_ne_true _ (λ h.
+        to_take.not_taken (subst (λ (x : ℕ). Contains (j ∷ js) x)
+        (one-place sender (j ∷ js) (keeps.from e.0 h).0 i e.0 (keeps.from e.0 h).2 e.1) (keeps.from e.0 h).1)) in
         take_is e.0 given old (to_take.not_lost e.0 e.1) again
 
     -- a later packet that is taken is one to take
@@ -122,17 +125,17 @@ module _ (meant : GivesMeant) (settings : Settings) (codec : Meaning) (sender : 
         let x : (x : ℕ × Content) × (v ≡ Ok x) = ok_value v h in
         let n : ℕ = x.0.0 in
         let took : (extended_number window.newest (wire_of sender i) ≡ Some n) × (x.0.1 ≡ content_sent b.packet)
-            × (would_of window n ≡ placings.Fresh) = taken_is n x.0.1 x.1 in
+        × (would_of window n ≡ placings.Fresh) = taken_is n x.0.1 x.1 in
         let e : Extends m (wire_of sender i) n =
-            (meant m (wire_of sender i) n (omega arith) (wire_below sender i)).0 (sym later-number ∙ took.0) in
+        (meant m (wire_of sender i) n (omega arith) (wire_below sender i)).0 (sym later-number ∙ took.0) in
         let here : IsNumber sender (j ∷ js) i n =
-            taken-number meant sender (j ∷ js) window.newest i n (m, newest, from, number) near took.0 in
+        taken-number meant sender (j ∷ js) window.newest i n (m, newest, from, number) near took.0 in
         let opened : IsFresh window n = fresh-is window n took.2 in
         let less : newest_with window.newest n < n + WINDOW = open-newest window.newest n opened.young in
         let with_m : newest_with window.newest n ≡ max m n = ap (λ (o : Option ℕ). newest_with o n) newest in
         let less_m : m < n + WINDOW = omega arith in
         let close : greatest (j ∷ js) < i + WINDOW =
-            number-near sender (j ∷ js) i (greatest (j ∷ js)) n m WINDOW here number less_m in
+        number-near sender (j ∷ js) i (greatest (j ∷ js)) n m WINDOW here number less_m in
         let alive : lost n ≡ false = sym (match.dead n opened.young) ∙ opened.alive in
         record {
           in_reach =
@@ -144,12 +147,15 @@ module _ (meant : GivesMeant) (settings : Settings) (codec : Meaning) (sender : 
   -- a sender's datagram that is near those taken is taken exactly if its packet is one to take
   rightly-packets_taken : (js : List ℕ) → IsNewestOf sender js window.newest → Keeps sender js window.packets →
       IsNear i js → (is_ok v ≡ true) ↔ ToTake sender lost i js
-  rightly-packets_taken [] newest keeps near =
-      (λ _. record { in_reach = tt; not_taken = Contains-empty i; not_lost = λ n is. absurd is }, λ _.
-      first-packets_taken keeps newest)
-  rightly-packets_taken (j ∷ js) newest keeps near =
-      (later-to_take j js newest.0 newest.1 newest.2 newest.3 keeps near,
-      later-packets_taken j js newest.0 newest.1 newest.2 newest.3 keeps near)
+  rightly-packets_taken [] newest keeps near = (
+    λ _. record { in_reach = tt; not_taken = Contains-empty i; not_lost = λ n is. absurd is },
+    λ _.
+        first-packets_taken keeps newest,
+  )
+  rightly-packets_taken (j ∷ js) newest keeps near = (
+    later-to_take j js newest.0 newest.1 newest.2 newest.3 keeps near,
+    later-packets_taken j js newest.0 newest.1 newest.2 newest.3 keeps near,
+  )
 
 -- a number available is that of a packet to keep
 available_keeps : (sender : Sender) (js : List ℕ) (packets : Packets) (i n : ℕ) → Keeps sender js packets →
@@ -166,7 +172,7 @@ keeps_available sender [] newest packets i is keeps to_keep = absurd (Contains-e
 keeps_available sender (j ∷ js) newest packets i is keeps to_keep =
     let upto : i ≤ greatest (j ∷ js) = greatest-upto (j ∷ js) i to_keep.0 in
     let e : (n : ℕ) × IsNumber sender (j ∷ js) i n × Extends is.0 (wire_of sender i) n =
-        is_number-extends sender j js is.0 i is.2 is.3 (omega arith) to_keep.1 in
+    is_number-extends sender j js is.0 i is.2 is.3 (omega arith) to_keep.1 in
     (e.0, e.1, keeps.all i e.0 to_keep.0 e.1 to_keep.1)
 
 module _ (settings : Settings) (codec : Meaning) (sender : Sender) (h : List Event) (origins : List Origin) where
@@ -196,7 +202,7 @@ module _ (settings : Settings) (codec : Meaning) (sender : Sender) (h : List Eve
   kept_rightly t = record {
     kept = λ i. (
       λ k. available_keeps sender (packets_taken settings codec h origins) packets_now i k.0 t.keeps k.1
-      (there_available k.0 (slice_get sender.packets i) k.2),
+          (there_available k.0 (slice_get sender.packets i) k.2),
       λ k. let p = keeps_available sender (packets_taken settings codec h origins)
           (latest (snapshots settings codec h)).window.newest packets_now i t.newest t.keeps k in
           (p.0, p.1, available_there i p.0 t.kept p.1 p.2),
@@ -254,7 +260,7 @@ module _ (settings : Settings) (codec : Meaning) (sender : Sender) (h : List Eve
         let window : Contents Content = (latest (snapshots settings codec h)).window in
         let js : List ℕ = packets_taken settings codec h origins in
         let b : Brings settings codec sender i octets =
-            brings law settings codec good sender honest i octets delivery.0 in
+        brings law settings codec good sender honest i octets delivery.0 in
         let lost : ℕ → Bool = is_lost (snapshots settings codec h) in
         let match : Matches window lost = matches settings codec h in
         let exact : (is_ok (verdict settings codec window octets) ≡ true) ↔ ToTake sender lost i js =
@@ -264,10 +270,14 @@ module _ (settings : Settings) (codec : Meaning) (sender : Sender) (h : List Eve
           exactly = (λ h'. is_to_take i (exact.0 h'), λ to. exact.1 (to_take i to));
           answer = λ h'.
               let p = brought-answer meant settings codec sender window lost match i octets b js t.here.newest
-                  delivery.1 h' in
-              (p.0, p.1, some_from (λ packet.
-              what_in (reply settings codec h (Datagram moment octets)) ≡ Some
-              (answer_taken p.0 (content_sent packet))) (slice_get sender.packets i) b.packet b.sent (ap Some p.2));
+              delivery.1 h' in (
+                p.0,
+                p.1,
+                some_from (λ packet.
+                    what_in (reply settings codec h (Datagram moment octets)) ≡ Some
+                    (answer_taken p.0 (content_sent packet))) (slice_get sender.packets i) b.packet b.sent
+                    (ap Some p.2),
+              );
         }
 
     -- an event takes what is to be taken
@@ -298,7 +308,7 @@ module _ (meant : GivesMeant) (law : ReadsPacket) (settings : Settings) (codec :
     kept_rightly settings codec sender h origins t.here,
     rightly_step settings codec sender h origins meant law good honest t e o network.0,
     takes_from es (e ∷ h) (o ∷ origins) os
-    (took_step settings codec sender h origins meant law good honest t e o network.0) network.1,
+        (took_step settings codec sender h origins meant law good honest t e o network.0) network.1,
   )
 
 -- every honest call takes and keeps rightly

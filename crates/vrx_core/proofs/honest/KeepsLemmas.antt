@@ -16,8 +16,11 @@ use Rattle.vrx_core.proofs.honest.NumberLemmas.{IsNumberFrom, IsNumberFrom-oldes
 pub greatest-upto : (js : List ℕ) (i : ℕ) → Contains js i → i ≤ greatest js
 greatest-upto [] i c = absurd (Contains-empty i c)
 greatest-upto (j ∷ js) i c =
-    elim (Contains-either j js i c) [ inl same ↦ omega arith | inr later ↦ let upto : i ≤ greatest js =
-    greatest-upto js i later in omega arith ]
+    elim (Contains-either j js i c) [
+      | inl same ↦ omega arith
+      | inr later ↦ let upto : i ≤ greatest js =
+          greatest-upto js i later in omega arith
+    ]
 
 module _ (sender : Sender) where
   -- numbers are as far from each other as their packets
@@ -74,13 +77,20 @@ module _ (sender : Sender) (js : List ℕ) (packets : Packets) (keeps : Keeps se
   after_placing-from : (q : ℕ) → is_available q (entries_with m n content packets) ≡ true →
       (k : ℕ) × Contains (i ∷ js) k × IsNumber sender (i ∷ js) k q × (greatest (i ∷ js) < k + WINDOW)
   after_placing-from q h = elim (placed_cases m n q content packets h) [
-    | inl same ↦ (i, Contains-head i js, subst (λ (x : ℕ). IsNumber sender (i ∷ js) i x) (sym same) number,
-        number-near sender (i ∷ js) i (greatest (i ∷ js)) n m WINDOW number newest inside)
+    | inl same ↦ (
+      i,
+      Contains-head i js,
+      subst (λ (x : ℕ). IsNumber sender (i ∷ js) i x) (sym same) number,
+      number-near sender (i ∷ js) i (greatest (i ∷ js)) n m WINDOW number newest inside,
+    )
     | inr old ↦
         let p : (k : ℕ) × Contains js k × IsNumber sender js k q × (greatest js < k + WINDOW) = keeps.from q old.1 in
-        let is : IsNumber sender (i ∷ js) p.0 q = IsNumber-grown sender i js p.0 q p.2 in
-        (p.0, Contains-tail i js p.0 p.1, is,
-        number-near sender (i ∷ js) p.0 (greatest (i ∷ js)) q m WINDOW is newest (window-order m q old.0).0)
+        let is : IsNumber sender (i ∷ js) p.0 q = IsNumber-grown sender i js p.0 q p.2 in (
+          p.0,
+          Contains-tail i js p.0 p.1,
+          is,
+          number-near sender (i ∷ js) p.0 (greatest (i ∷ js)) q m WINDOW is newest (window-order m q old.0).0,
+        )
   ]
 
   -- a packet taken before
@@ -92,8 +102,8 @@ module _ (sender : Sender) (js : List ℕ) (packets : Packets) (keeps : Keeps se
       let above : k < greatest (i ∷ js) + 1 = omega arith in
       let less : q < m + 1 = near-number sender (i ∷ js) (greatest (i ∷ js)) k m q 1 newest is above in
       let within : in_window m q ≡ true =
-          order-window m q (near-number sender (i ∷ js) k (greatest (i ∷ js)) q m WINDOW is newest near)
-          (omega arith) in
+      order-window m q (near-number sender (i ∷ js) k (greatest (i ∷ js)) q m WINDOW is newest near)
+      (omega arith) in
       placed_old m n q content packets within (keeps.all k q c (number-before sender i js k q c is) closer)
 
   -- every packet taken that lies near enough is available

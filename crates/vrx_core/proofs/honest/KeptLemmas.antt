@@ -58,8 +58,10 @@ module _ (sender : Sender) (js : List ℕ) where
   grown-kept j (e ∷ es) k =
       let here : IsKept sender js e = k.0 in (
         record {
-            place = here.place; carried = here.carried; numbered =
-            IsNumber-grown sender j js here.place e.0 here.numbered },
+          place = here.place;
+          carried = here.carried;
+          numbered = IsNumber-grown sender j js here.place e.0 here.numbered;
+        },
         grown-kept j es k.1,
       )
 
@@ -85,13 +87,16 @@ module _ (sender : Sender) (js : List ℕ) (n : ℕ) where
     k.place,
     subst (λ (x : ℕ). IsNumber sender js k.place x) (sym (same_key n e.0 same)) k.numbered,
     there_first (slice_get sender.packets k.place) e.1 (at n (e ∷ es))
-    (ap (λ b. cond b (Some e.1) (at n es)) same) k.carried,
+        (ap (λ b. cond b (Some e.1) (at n es)) same) k.carried,
   )
   there_either e es k rest false apart h =
-      let p : (k : ℕ) × IsNumber sender js k n × IsThere k es = rest h in
-      (p.0, p.1, subst (λ (found : Option Content).
-      IsSomeAnd (slice_get sender.packets p.0) (λ packet. found ≡ Some (content_sent packet)))
-      (sym (ap (λ b. cond b (Some e.1) (at n es)) apart)) p.2)
+      let p : (k : ℕ) × IsNumber sender js k n × IsThere k es = rest h in (
+        p.0,
+        p.1,
+        subst (λ (found : Option Content).
+            IsSomeAnd (slice_get sender.packets p.0) (λ packet. found ≡ Some (content_sent packet)))
+            (sym (ap (λ b. cond b (Some e.1) (at n es)) apart)) p.2,
+      )
 
   -- what is available is a packet of the sender, under its number and with its content
   pub kept-there : (packets : Packets) → AreKept sender js packets → is_available n packets ≡ true →

@@ -33,8 +33,10 @@ origins_back = Elsewhere ∷ Elsewhere ∷ Elsewhere ∷ Elsewhere ∷ Elsewhere
 -- the network is honest
 pub network-honest : HonestNetwork settings codec sender [] [] events origins
 unfolding snapshots packets_taken
-network-honest = ((inl refl, tt),
-    ((inl refl, (omega arith, omega arith)), (tt, (tt, (tt, (tt, (tt, (tt, (tt, (tt, (tt, (tt, tt))))))))))))
+network-honest = (
+  (inl refl, tt),
+  ((inl refl, (omega arith, omega arith)), (tt, (tt, (tt, (tt, (tt, (tt, (tt, (tt, (tt, (tt, tt))))))))))),
+)
 
 -- a NACK of the number 2 alone (RFC 4585 6.2.1), and a PLI (RFC 4585 6.3.1), from 11 about 10
 abbrev nack : List ℕ

@@ -28,7 +28,11 @@ use Rattle.vrx_core.proofs.machine.MemberLemmas.{Contains-either, Contains-empty
 abbrev pub codec : Meaning
 codec = record {
   read = λ payload. Ok (record {
-      start = ByNeighbour; key = list_any (λ octet. octet == 5) payload; layers = None; body = payload });
+    start = ByNeighbour;
+    key = list_any (λ octet. octet == 5) payload;
+    layers = None;
+    body = payload;
+  });
   join = λ parts. Ok (flat_map (λ part. part.body) parts);
 }
 
@@ -77,8 +81,16 @@ abbrev first_part : CarriedPart
 first_part = record {
   text = first_text;
   packet = record {
-      marker = true; pt = 96; seq = 1; ts = 0; ssrc = 10; csrc = []; extension = None; payload =
-      5 ∷ 170 ∷ []; padding = 0 };
+    marker = true;
+    pt = 96;
+    seq = 1;
+    ts = 0;
+    ssrc = 10;
+    csrc = [];
+    extension = None;
+    payload = 5 ∷ 170 ∷ [];
+    padding = 0;
+  };
   part = record { start = ByNeighbour; key = true; layers = None; body = 5 ∷ 170 ∷ [] };
 }
 
@@ -86,8 +98,16 @@ abbrev second_part : CarriedPart
 second_part = record {
   text = second_text;
   packet = record {
-      marker = false; pt = 96; seq = 2; ts = 9; ssrc = 10; csrc = []; extension = None; payload =
-      5 ∷ 187 ∷ []; padding = 0 };
+    marker = false;
+    pt = 96;
+    seq = 2;
+    ts = 9;
+    ssrc = 10;
+    csrc = [];
+    extension = None;
+    payload = 5 ∷ 187 ∷ [];
+    padding = 0;
+  };
   part = record { start = ByNeighbour; key = true; layers = None; body = 5 ∷ 187 ∷ [] };
 }
 
@@ -95,8 +115,16 @@ abbrev third_part : CarriedPart
 third_part = record {
   text = third_text;
   packet = record {
-      marker = true; pt = 96; seq = 3; ts = 9; ssrc = 10; csrc = []; extension = None; payload = 204 ∷ []; padding =
-      0 };
+    marker = true;
+    pt = 96;
+    seq = 3;
+    ts = 9;
+    ssrc = 10;
+    csrc = [];
+    extension = None;
+    payload = 204 ∷ [];
+    padding = 0;
+  };
   part = record { start = ByNeighbour; key = false; layers = None; body = 204 ∷ [] };
 }
 
@@ -104,8 +132,16 @@ abbrev fourth_part : CarriedPart
 fourth_part = record {
   text = fourth_text;
   packet = record {
-      marker = true; pt = 96; seq = 5; ts = 18; ssrc = 10; csrc = []; extension = None; payload = 221 ∷ []; padding =
-      0 };
+    marker = true;
+    pt = 96;
+    seq = 5;
+    ts = 18;
+    ssrc = 10;
+    csrc = [];
+    extension = None;
+    payload = 221 ∷ [];
+    padding = 0;
+  };
   part = record { start = ByNeighbour; key = false; layers = None; body = 221 ∷ [] };
 }
 
@@ -122,8 +158,17 @@ first_is : IsPart settings codec sender 0 first_frame 1 0 0 first_part
 first_is = record {
   sent = refl;
   media = record {
-      size = omega arith; below = are_octets first_text refl; reads = refl; no_padding = refl; number = refl; type =
-      refl; source = refl; payload = λ e. cc; part_reads = refl; layers = refl };
+    size = omega arith;
+    below = are_octets first_text refl;
+    reads = refl;
+    no_padding = refl;
+    number = refl;
+    type = refl;
+    source = refl;
+    payload = λ e. cc;
+    part_reads = refl;
+    layers = refl;
+  };
   timestamp = refl;
   marker = (λ e. refl, λ e. refl);
   start = tt;
@@ -133,8 +178,17 @@ second_is : IsPart settings codec sender 1 second_frame 2 0 1 second_part
 second_is = record {
   sent = refl;
   media = record {
-      size = omega arith; below = are_octets second_text refl; reads = refl; no_padding = refl; number = refl; type =
-      refl; source = refl; payload = λ e. cc; part_reads = refl; layers = refl };
+    size = omega arith;
+    below = are_octets second_text refl;
+    reads = refl;
+    no_padding = refl;
+    number = refl;
+    type = refl;
+    source = refl;
+    payload = λ e. cc;
+    part_reads = refl;
+    layers = refl;
+  };
   timestamp = refl;
   marker = (λ e. cc, λ e. absurd (omega arith));
   start = tt;
@@ -144,8 +198,17 @@ third_is : IsPart settings codec sender 1 second_frame 2 1 2 third_part
 third_is = record {
   sent = refl;
   media = record {
-      size = omega arith; below = are_octets third_text refl; reads = refl; no_padding = refl; number = refl; type =
-      refl; source = refl; payload = λ e. cc; part_reads = refl; layers = refl };
+    size = omega arith;
+    below = are_octets third_text refl;
+    reads = refl;
+    no_padding = refl;
+    number = refl;
+    type = refl;
+    source = refl;
+    payload = λ e. cc;
+    part_reads = refl;
+    layers = refl;
+  };
   timestamp = refl;
   marker = (λ e. refl, λ e. refl);
   start = tt;
@@ -155,8 +218,17 @@ fourth_is : IsPart settings codec sender 2 third_frame 1 0 4 fourth_part
 fourth_is = record {
   sent = refl;
   media = record {
-      size = omega arith; below = are_octets fourth_text refl; reads = refl; no_padding = refl; number = refl; type =
-      refl; source = refl; payload = λ e. cc; part_reads = refl; layers = refl };
+    size = omega arith;
+    below = are_octets fourth_text refl;
+    reads = refl;
+    no_padding = refl;
+    number = refl;
+    type = refl;
+    source = refl;
+    payload = λ e. cc;
+    part_reads = refl;
+    layers = refl;
+  };
   timestamp = refl;
   marker = (λ e. refl, λ e. refl);
   start = tt;
@@ -166,8 +238,11 @@ fourth_is = record {
 first_travels : Travels settings codec sender 0 first_frame 0 (first_part ∷ [])
 unfolding first_is
 first_travels = record {
-    some = omega arith; each = (first_is, tt); joins = refl; key =
-    (λ e. (first_part, (0, omega arith, refl), refl), λ e. refl) }
+  some = omega arith;
+  each = (first_is, tt);
+  joins = refl;
+  key = (λ e. (first_part, (0, omega arith, refl), refl), λ e. refl);
+}
 
 second_travels : Travels settings codec sender 1 second_frame 1 (second_part ∷ third_part ∷ [])
 unfolding second_is third_is
@@ -188,7 +263,11 @@ no_key c there key = elim (Contains-either fourth_part [] c there) [
 third_travels : Travels settings codec sender 2 third_frame 4 (fourth_part ∷ [])
 unfolding fourth_is
 third_travels = record {
-    some = omega arith; each = (fourth_is, tt); joins = refl; key = (λ e. absurd (cc), λ p. no_key p.0 p.1 p.2) }
+  some = omega arith;
+  each = (fourth_is, tt);
+  joins = refl;
+  key = (λ e. absurd (cc), λ p. no_key p.0 p.1 p.2);
+}
 
 -- the places and the parts of the frames
 abbrev place : ℕ → ℕ
@@ -258,7 +337,16 @@ empty_is = record {
   size = omega arith;
   below = are_octets empty_octets refl;
   packet = record {
-      marker = false; pt = 96; seq = 4; ts = 9; ssrc = 10; csrc = []; extension = None; payload = []; padding = 1 };
+    marker = false;
+    pt = 96;
+    seq = 4;
+    ts = 9;
+    ssrc = 10;
+    csrc = [];
+    extension = None;
+    payload = [];
+    padding = 1;
+  };
   reads = refl;
   number = refl;
   type = refl;

@@ -95,11 +95,11 @@ pub taken-number : GivesMeant → (sender : Sender) (js : List ℕ) (newest : Op
     IsNumber sender (i ∷ js) i n
 taken-number meant sender [] newest i n is near given =
     let e : n ≡ wire_of sender i + 65536 =
-        sym (same_Some _ _ (subst (λ (o : Option ℕ). extended_number o (wire_of sender i) ≡ Some n) is given)) in
+    sym (same_Some _ _ (subst (λ (o : Option ℕ). extended_number o (wire_of sender i) ≡ Some n) is given)) in
     omega arith
 taken-number meant sender (j ∷ js) newest i n is near given =
     let e : extended_number (Some is.0) (wire_of sender i) ≡ Some n =
-        subst (λ (o : Option ℕ). extended_number o (wire_of sender i) ≡ Some n) is.1 given in
+    subst (λ (o : Option ℕ). extended_number o (wire_of sender i) ≡ Some n) is.1 given in
     let f : HALF_SPACE ≤ is.0 = omega arith in
     near-is_number sender j js is.0 i n is.2 is.3 near ((meant is.0 (wire_of sender i) n f (wire_below sender i)).0 e)
 
@@ -109,7 +109,7 @@ pub taken-newest : GivesMeant → (sender : Sender) (js : List ℕ) (newest : Op
     IsNewestOf sender (i ∷ js) (Some (newest_with newest n))
 taken-newest meant sender [] newest i n is near given =
     let e : n ≡ wire_of sender i + 65536 =
-        sym (same_Some _ _ (subst (λ (o : Option ℕ). extended_number o (wire_of sender i) ≡ Some n) is given)) in
+    sym (same_Some _ _ (subst (λ (o : Option ℕ). extended_number o (wire_of sender i) ≡ Some n) is given)) in
     let g : newest_with newest n ≡ n = ap (λ (o : Option ℕ). newest_with o n) is in
     (n, ap Some g, omega arith, omega arith)
 taken-newest meant sender (j ∷ js) newest i n is near given =
@@ -130,6 +130,8 @@ pub is_number-extends : (sender : Sender) (j : ℕ) (js : List ℕ) (m i : ℕ) 
 is_number-extends sender j js m i from is ahead behind =
     let g : ℕ = greatest (j ∷ js) in
     let known : IsNumberFrom sender (oldest j js) g m = IsNumberFrom-oldest sender j js g m is in
-    let here : IsNumberFrom sender (oldest j js) i ((m + i) - g) = omega arith in
-    ((m + i) - g, IsNumber-from_oldest sender j js i ((m + i) - g) here,
-    number-extends sender.first_wire (oldest j js) m g i from known ahead (omega arith))
+    let here : IsNumberFrom sender (oldest j js) i ((m + i) - g) = omega arith in (
+      (m + i) - g,
+      IsNumber-from_oldest sender j js i ((m + i) - g) here,
+      number-extends sender.first_wire (oldest j js) m g i from known ahead (omega arith),
+    )

@@ -43,9 +43,11 @@ module _ (settings : Settings) (codec : Meaning) (sender : Sender) where
   part-at f frame count k i d m j [] are within is_m is_j = absurd (omega arith)
   part-at f frame count k i zero m j (c ∷ cs) are within is_m is_j =
       let same_k : k ≡ m = omega arith in
-      let same_i : i ≡ j = omega arith in
-      (c, subst (λ (x : ℕ). IsPart settings codec sender f frame count x j c) same_k
-      (subst (λ (y : ℕ). IsPart settings codec sender f frame count k y c) same_i are.0))
+      let same_i : i ≡ j = omega arith in (
+        c,
+        subst (λ (x : ℕ). IsPart settings codec sender f frame count x j c) same_k
+            (subst (λ (y : ℕ). IsPart settings codec sender f frame count k y c) same_i are.0),
+      )
   part-at f frame count k i (suc d) m j (c ∷ cs) are within is_m is_j =
       part-at f frame count (k + 1) (i + 1) d m j cs are.1 (omega arith) (omega arith) (omega arith)
 
@@ -86,13 +88,20 @@ module _ (settings : Settings) (codec : Meaning) (sender : Sender) where
           ∙ slice_get-get_or sender.frames f (record { bytes = []; key = false; ts = 0; references = [] }) within))
       sent_in f (Some frame) there within from upto =
           let t : Travels settings codec sender f frame (honest.place f) (honest.parts f) =
-              frame_travels f frame there in
+          frame_travels f frame there in
           let c : (c : CarriedPart) × IsPart settings codec sender f frame (size f) (i - honest.place f) i c =
-              part-at f frame (size f) 0 (honest.place f) (i - honest.place f) (i - honest.place f) i
-              (honest.parts f) t.each (omega arith) (omega arith) (omega arith) in
+          part-at f frame (size f) 0 (honest.place f) (i - honest.place f) (i - honest.place f) i
+          (honest.parts f) t.each (omega arith) (omega arith) (omega arith) in
           record {
-              f = f; k = i - honest.place f; frame = frame; carried = c.0; sent = there; within = omega arith; here =
-              omega arith; part = c.1 }
+            f = f;
+            k = i - honest.place f;
+            frame = frame;
+            carried = c.0;
+            sent = there;
+            within = omega arith;
+            here = omega arith;
+            part = c.1;
+          }
 
     -- the packets of a frame are those from its place on
     pub frame_spans : (f : ℕ) (frame : SentFrame) → slice_get sender.frames f ≡ Some frame →
@@ -109,10 +118,10 @@ module _ (settings : Settings) (codec : Meaning) (sender : Sender) where
               (honest.place f ≤ i) × (i ≤ honest.place f + size f - 1)
           within i of =
               let p : (packet : SentPacket) × (slice_get sender.packets i ≡ Some packet) × IsOf f packet =
-                  some_there (IsOf f) (slice_get sender.packets i) of in
+              some_there (IsOf f) (slice_get sender.packets i) of in
               let s : IsSent i = packet_sent i p.0 p.1 (of_media p.0 p.2) in
               let same : s.f ≡ f =
-                  some_holds (IsOf f) (slice_get sender.packets i) (Media s.f s.k s.carried.text) s.part.sent of in
+              some_holds (IsOf f) (slice_get sender.packets i) (Media s.f s.k s.carried.text) s.part.sent of in
               let place_is : honest.place s.f ≡ honest.place f = ap honest.place same in
               let size_is : size s.f ≡ size f = ap size same in
               let here : honest.place s.f + s.k ≡ i = s.here in
@@ -123,8 +132,8 @@ module _ (settings : Settings) (codec : Meaning) (sender : Sender) where
               honest.place f ≤ i → i ≤ honest.place f + size f - 1 → IsSomeAnd (slice_get sender.packets i) (IsOf f)
           there i t some from upto =
               let c : (c : CarriedPart) × IsPart settings codec sender f frame (size f) (i - honest.place f) i c =
-                  part-at f frame (size f) 0 (honest.place f) (i - honest.place f) (i - honest.place f) i
-                  (honest.parts f) t.each (omega arith) (omega arith) (omega arith) in
+              part-at f frame (size f) 0 (honest.place f) (i - honest.place f) (i - honest.place f) i
+              (honest.parts f) t.each (omega arith) (omega arith) (omega arith) in
               some_from (IsOf f) (slice_get sender.packets i) (Media f (i - honest.place f) c.0.text) c.1.sent refl
 
     -- a span of the same frame is the same
@@ -136,14 +145,14 @@ module _ (settings : Settings) (codec : Meaning) (sender : Sender) where
         let some : 0 < size f = t.some in
         let upto : from ≤ to = spans.some in
         let a : (honest.place f ≤ from) × (from ≤ honest.place f + size f - 1) =
-            (mine.exactly from).0 ((spans.exactly from).1 (omega arith, upto)) in
+        (mine.exactly from).0 ((spans.exactly from).1 (omega arith, upto)) in
         let b : (honest.place f ≤ to) × (to ≤ honest.place f + size f - 1) =
-            (mine.exactly to).0 ((spans.exactly to).1 (upto, omega arith)) in
+        (mine.exactly to).0 ((spans.exactly to).1 (upto, omega arith)) in
         let c : (from ≤ honest.place f) × (honest.place f ≤ to) =
-            (spans.exactly (honest.place f)).0 ((mine.exactly (honest.place f)).1 (omega arith, omega arith)) in
+        (spans.exactly (honest.place f)).0 ((mine.exactly (honest.place f)).1 (omega arith, omega arith)) in
         let d : (from ≤ honest.place f + size f - 1) × (honest.place f + size f - 1 ≤ to) =
-            (spans.exactly (honest.place f + size f - 1)).0
-            ((mine.exactly (honest.place f + size f - 1)).1 (omega arith, omega arith)) in
+        (spans.exactly (honest.place f + size f - 1)).0
+        ((mine.exactly (honest.place f + size f - 1)).1 (omega arith, omega arith)) in
         (omega arith, omega arith)
 
     -- a frame that begins no later than another is no later frame

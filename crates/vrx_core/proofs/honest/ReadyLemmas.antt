@@ -83,9 +83,9 @@ next_evident : (pulled front : Option ℕ) (run : Run) → is_deliverable pulled
     (is_some pulled ≡ true) × (is_passed front (run.first - 1) ≡ true)
 next_evident pulled front run h no_key =
     let either : (run.key || (is_none run.layers && is_evident pulled front run)) ≡ true =
-        (and_parts (stands pulled run) (run.key || (is_none run.layers && is_evident pulled front run)) h).1 in
+    (and_parts (stands pulled run) (run.key || (is_none run.layers && is_evident pulled front run)) h).1 in
     let second : (is_none run.layers && is_evident pulled front run) ≡ true =
-        sym (ap (λ b. b || (is_none run.layers && is_evident pulled front run)) no_key) ∙ either in
+    sym (ap (λ b. b || (is_none run.layers && is_evident pulled front run)) no_key) ∙ either in
     and_parts (is_some pulled) (is_passed front (run.first - 1))
     (and_parts (is_none run.layers) (is_evident pulled front run) second).1
 
@@ -126,17 +126,17 @@ module _ (are : RunsAre) (settings : Settings) (codec : Meaning) (sender : Sende
       elim (before_or_behind (n - 1) run.last) [
         | inl before ↦
             let behind : IsNumber sender js (p.numbered.to + 1) n =
-                number_later sender js p.numbered.to run.last 1 (p.numbered.to + 1) n p.numbered.last_is refl
-                (omega arith) in
+            number_later sender js p.numbered.to run.last 1 (p.numbered.to + 1) n p.numbered.last_is refl
+            (omega arith) in
             let same : i ≡ p.numbered.to + 1 = one-place sender js i (p.numbered.to + 1) n numbered behind in
             let span =
-                one_span settings codec sender honest f p.sent p.numbered.from p.numbered.to p.is p.numbered.spans in
+            one_span settings codec sender honest f p.sent p.numbered.from p.numbered.to p.is p.numbered.spans in
             behind_last settings codec sender honest i f p.sent p.is (same ∙ span.1) s
         | inr after ↦
             let e : (j : ℕ) × IsNumber sender js j (n - 1) × (slice_get sender.packets j ≡ Some Empty) =
-                of.1 (n - 1) after upto in
+            of.1 (n - 1) after upto in
             let next : IsNumber sender js (e.0 + 1) n =
-                number_later sender js e.0 (n - 1) 1 (e.0 + 1) n e.1 refl (omega arith) in
+            number_later sender js e.0 (n - 1) 1 (e.0 + 1) n e.1 refl (omega arith) in
             after_empty settings codec sender honest e.0 i e.2 (one-place sender js (e.0 + 1) i n next numbered) s
       ]
 
@@ -149,38 +149,40 @@ module _ (are : RunsAre) (settings : Settings) (codec : Meaning) (sender : Sende
       (i : ℕ) × IsNumber sender js i m × (slice_get sender.packets i ≡ Some Empty)) → k + 1 ≡ f
   next_over_empty js k f frame to last first is less ends end_is numbered above empty =
       elim (before_or_behind f (k + 1)) [
-    | inl upto ↦ omega arith
-    | inr between ↦
-        let within : f < length sender.frames = slice_get_within sender.frames f frame is in
-        let before : honest.place k + size settings codec sender honest k ≤ honest.place (k + 1) =
+        | inl upto ↦ omega arith
+        | inr between ↦
+            let within : f < length sender.frames = slice_get_within sender.frames f frame is in
+            let before : honest.place k + size settings codec sender honest k ≤ honest.place (k + 1) =
             honest.in_order k (k + 1) (omega arith) (omega arith) in
-        let after : honest.place (k + 1) + size settings codec sender honest (k + 1) ≤ honest.place f =
+            let after : honest.place (k + 1) + size settings codec sender honest (k + 1) ≤ honest.place f =
             honest.in_order (k + 1) f between within in
-        let inside : k + 1 < length sender.frames = omega arith in
-        let t : Travels settings codec sender (k + 1) _ (honest.place (k + 1)) (honest.parts (k + 1)) =
+            let inside : k + 1 < length sender.frames = omega arith in
+            let t : Travels settings codec sender (k + 1) _ (honest.place (k + 1)) (honest.parts (k + 1)) =
             frame_travels settings codec sender honest (k + 1) _
             (slice_get-get_or sender.frames (k + 1) frame inside) in
-        let some : 0 < size settings codec sender honest (k + 1) = t.some in
-        let d : ℕ = honest.place (k + 1) - to in
-        let there : IsNumber sender js (honest.place (k + 1)) (last + d) =
+            let some : 0 < size settings codec sender honest (k + 1) = t.some in
+            let d : ℕ = honest.place (k + 1) - to in
+            let there : IsNumber sender js (honest.place (k + 1)) (last + d) =
             number_later sender js to last d (honest.place (k + 1)) (last + d) ends (omega arith) refl in
-        let below : last + d < first = near_first (honest.place (k + 1)) (last + d) there (omega arith) in
-        let inside_empty : slice_get sender.packets (honest.place (k + 1)) ≡ Some Empty =
+            let below : last + d < first = near_first (honest.place (k + 1)) (last + d) there (omega arith) in
+            let inside_empty : slice_get sender.packets (honest.place (k + 1)) ≡ Some Empty =
             at_empty (honest.place (k + 1)) (last + d) there (omega arith) below in
-        absurd (some_holds (IsOf (k + 1)) (slice_get sender.packets (honest.place (k + 1))) Empty inside_empty
-        (((frame_spans settings codec sender honest (k + 1) _
-        (slice_get-get_or sender.frames (k + 1) frame inside)).exactly (honest.place (k + 1))).1
-        (omega arith, omega arith)))
-  ] where
-    at_empty : (i m : ℕ) → IsNumber sender js i m → last < m → m < first → slice_get sender.packets i ≡ Some Empty
-    at_empty i m at_i above below =
-        let e : (j : ℕ) × IsNumber sender js j m × (slice_get sender.packets j ≡ Some Empty) = empty m above below in
-        subst (λ (j : ℕ). slice_get sender.packets j ≡ Some Empty) (one-place sender js e.0 i m e.1 at_i) e.2
+            absurd (some_holds (IsOf (k + 1)) (slice_get sender.packets (honest.place (k + 1))) Empty inside_empty
+            (((frame_spans settings codec sender honest (k + 1) _
+            (slice_get-get_or sender.frames (k + 1) frame inside)).exactly (honest.place (k + 1))).1
+            (omega arith, omega arith)))
+      ] where
+        at_empty : (i m : ℕ) → IsNumber sender js i m → last < m → m < first → slice_get sender.packets i ≡ Some Empty
+        at_empty i m at_i above below =
+            let e : (j : ℕ) × IsNumber sender js j m × (slice_get sender.packets j ≡ Some Empty) =
+            empty m above below in
+            subst (λ (j : ℕ). slice_get sender.packets j ≡ Some Empty) (one-place sender js e.0 i m e.1 at_i) e.2
 
-    near_first : (i m : ℕ) → IsNumber sender js i m → i + 1 ≤ honest.place f → m < first
-    near_first i m at_i less =
-        let near : m < first + 0 = near-number sender js (honest.place f) i first m 0 numbered at_i (omega arith) in
-        omega arith
+        near_first : (i m : ℕ) → IsNumber sender js i m → i + 1 ≤ honest.place f → m < first
+        near_first i m at_i less =
+            let near : m < first + 0 =
+            near-number sender js (honest.place f) i first m 0 numbered at_i (omega arith) in
+            omega arith
 
   module _ (h : List Event) (origins : List Origin) where
     -- which numbers stood right after the end of a frame at some time
@@ -212,29 +214,29 @@ module _ (are : RunsAre) (settings : Settings) (codec : Meaning) (sender : Sende
       from_one : (n : ℕ) → is_available n packets_now ≡ true → 1 ≤ n
       from_one n available = by_taken js (latest (snapshots settings codec h)).window.newest holds.took.here.newest
           (holds.took.here.keeps.from n available) where
-        by_taken : (taken : List ℕ) (o : Option ℕ) → IsNewestOf sender taken o →
-            (i : ℕ) × Contains taken i × IsNumber sender taken i n × (greatest taken < i + WINDOW) → 1 ≤ n
-        by_taken [] o newest p = absurd p.2
-        by_taken (j ∷ others) o newest p =
-            let least : 65536 ≤ newest.0 = newest.2 in
-            let near : newest.0 < n + WINDOW =
+            by_taken : (taken : List ℕ) (o : Option ℕ) → IsNewestOf sender taken o →
+                (i : ℕ) × Contains taken i × IsNumber sender taken i n × (greatest taken < i + WINDOW) → 1 ≤ n
+            by_taken [] o newest p = absurd p.2
+            by_taken (j ∷ others) o newest p =
+                let least : 65536 ≤ newest.0 = newest.2 in
+                let near : newest.0 < n + WINDOW =
                 near-number sender (j ∷ others) p.0 (greatest (j ∷ others)) n newest.0 WINDOW p.2 newest.3 p.3 in
-            omega arith
+                omega arith
 
       -- beyond the frames pulled none but a first part stands after the end of a frame
       first_behind : (from : ℕ) → IfSome pulled_now (λ last. last < from) →
           FirstBehind settings codec sender js packets_now holds.took.here.kept honest front_now began from
       first_behind from beyond i n upto available numbered sent behind =
           elim (or_cases (is_passed front_now (n - 1)) (began n) behind) [
-        | inl passed ↦ passed_first js fs
-            (latest (snapshots settings codec h)).pulled front_now i n sent holds.pulled holds.front
-            (further pulled_now beyond) numbered passed
-        | inr stood ↦ began_first settings codec sender honest js (snapshots settings codec h) i n sent
-            (from_one n available) holds.took.were numbered stood
-      ] where
-        further : (o : Option ℕ) → IfSome o (λ last. last < from) → IfSome o (λ last. last < n)
-        further None less = tt
-        further (Some last) less = omega (arith, less, upto)
+            | inl passed ↦ passed_first js fs
+                (latest (snapshots settings codec h)).pulled front_now i n sent holds.pulled holds.front
+                (further pulled_now beyond) numbered passed
+            | inr stood ↦ began_first settings codec sender honest js (snapshots settings codec h) i n sent
+                (from_one n available) holds.took.were numbered stood
+          ] where
+            further : (o : Option ℕ) → IfSome o (λ last. last < from) → IfSome o (λ last. last < n)
+            further None less = tt
+            further (Some last) less = omega (arith, less, upto)
 
       -- a run that stands is a whole frame, beyond the last frame pulled
       stood : (run : Run) → Contains runs_now run →
@@ -255,15 +257,15 @@ module _ (are : RunsAre) (settings : Settings) (codec : Meaning) (sender : Sende
       evident_begins f first frame is numbered from evident c part =
           first_begins settings codec sender honest f (size settings codec sender honest f) (honest.place f) frame c
           (is_behind front_now began first) part (elim evident [
-        | inl says ↦ inl (says_yes settings codec sender honest f (size settings codec sender honest f) 0
-            (honest.place f) frame c part says)
-        | inr other ↦ inr (elim other [
-          | inl passed ↦ or_left (is_passed front_now (first - 1)) (began first) passed
-          | inr beside ↦ or_right (is_passed front_now (first - 1)) (began first)
-              (were_behind settings codec sender honest js f frame first
-              (snapshots settings codec h) is from holds.took.were numbered beside)
-        ])
-      ])
+            | inl says ↦ inl (says_yes settings codec sender honest f (size settings codec sender honest f) 0
+                (honest.place f) frame c part says)
+            | inr other ↦ inr (elim other [
+              | inl passed ↦ or_left (is_passed front_now (first - 1)) (began first) passed
+              | inr beside ↦ or_right (is_passed front_now (first - 1)) (began first)
+                  (were_behind settings codec sender honest js f frame first
+                  (snapshots settings codec h) is from holds.took.were numbered beside)
+            ])
+          ])
 
       -- its first number is that of the frame's first packet
       pub first_place : (f : ℕ) (run : Run) (is : IsFrameRun sender js f run) →
@@ -285,23 +287,23 @@ module _ (are : RunsAre) (settings : Settings) (codec : Meaning) (sender : Sende
       complete_run f c =
           let pulled : List Run = (latest (snapshots settings codec h)).pulled in
           let span =
-              one_span settings codec sender honest f c.frame c.numbered.from c.numbered.to c.sent c.numbered.spans in
+          one_span settings codec sender honest f c.frame c.numbered.from c.numbered.to c.sent c.numbered.spans in
           let first : IsNumber sender js (honest.place f) c.first =
-              subst (λ (i : ℕ). IsNumber sender js i c.first) span.0 c.numbered.first_is in
+          subst (λ (i : ℕ). IsNumber sender js i c.first) span.0 c.numbered.first_is in
           let t : Travels settings codec sender f c.frame (honest.place f) (honest.parts f) =
-              frame_travels settings codec sender honest f c.frame c.sent in
+          frame_travels settings codec sender honest f c.frame c.sent in
           let some : 0 < length (honest.parts f) = t.some in
           let to_is : c.numbered.to + 1 ≡ honest.place f + length (honest.parts f) = span.1 in
           let last : IsNumber sender js c.numbered.to (c.first + length (honest.parts f) - 1) =
-              number_later sender js (honest.place f) c.first (length (honest.parts f) - 1) c.numbered.to
-              (c.first + length (honest.parts f) - 1) first (omega arith) (omega arith) in
+          number_later sender js (honest.place f) c.first (length (honest.parts f) - 1) c.numbered.to
+          (c.first + length (honest.parts f) - 1) first (omega arith) (omega arith) in
           let last_is : c.last ≡ c.first + length (honest.parts f) - 1 =
-              one-number sender js c.numbered.to c.last
-              (c.first + length (honest.parts f) - 1) c.numbered.last_is last in
+          one-number sender js c.numbered.to c.last
+          (c.first + length (honest.parts f) - 1) c.numbered.last_is last in
           let run : Run =
-              frame_run settings codec sender js packets_now holds.took.here.kept c.frame c.first (honest.parts f) in
+          frame_run settings codec sender js packets_now holds.took.here.kept c.frame c.first (honest.parts f) in
           let beyond : stands pulled_now run ≡ true =
-              stands_from pulled_now run (beyond-last pulled c.first c.beyond) in
+          stands_from pulled_now run (beyond-last pulled c.first c.beyond) in
           record {
             run = run;
             there = standing-to are codec (snapshots settings codec h) (standing_is settings codec h) run
@@ -317,8 +319,12 @@ module _ (are : RunsAre) (settings : Settings) (codec : Meaning) (sender : Sende
               frame = c.frame;
               sent = c.sent;
               numbered = record {
-                  from = c.numbered.from; to = c.numbered.to; spans = c.numbered.spans; first_is =
-                  c.numbered.first_is; last_is = last };
+                from = c.numbered.from;
+                to = c.numbered.to;
+                spans = c.numbered.spans;
+                first_is = c.numbered.first_is;
+                last_is = last;
+              };
               ts = refl;
               key = refl;
               bytes = refl;
@@ -339,10 +345,10 @@ module _ (are : RunsAre) (settings : Settings) (codec : Meaning) (sender : Sende
         by_last (Some last) None is of = absurd of
         by_last (Some last) (Some front) is of =
             let all : All (λ r. r.last < last + 1) (latest (snapshots settings codec h)).pulled =
-                beyond-every are settings codec h (last + 1)
-                (subst (λ (o : Option ℕ). IfSome o (λ l. l < last + 1)) (sym is) (omega arith)) in
+            beyond-every are settings codec h (last + 1)
+            (subst (λ (o : Option ℕ). IfSome o (λ l. l < last + 1)) (sym is) (omega arith)) in
             let less : run.last < last + 1 =
-                of_all (λ r. r.last < last + 1) (latest (snapshots settings codec h)).pulled run all there in
+            of_all (λ r. r.last < last + 1) (latest (snapshots settings codec h)).pulled run all there in
             let more : last ≤ front = of.0 in
             le-leb n front (omega arith)
 
@@ -372,13 +378,13 @@ module _ (are : RunsAre) (settings : Settings) (codec : Meaning) (sender : Sende
         by_key f ready r true is = deliverable_key pulled_now front_now r.run r.beyond (r.is_frame.key ∙ is)
         by_key zero ready r false is =
             absurd (true≢false (sym (first_is_key r.is_frame.frame r.is_frame.sent) ∙ is)) where
-          first_is_key : (frame : SentFrame) → slice_get sender.frames 0 ≡ Some frame → frame.key ≡ true
-          first_is_key frame there = here (slice_get sender.frames 0) there honest.from_key where
-            here : (o : Option SentFrame) → o ≡ Some frame → IfSome o (λ x. x.key ≡ true) → frame.key ≡ true
-            here None none k = absurd (none-some frame none)
-            here (Some x) some k = ap (λ (y : SentFrame). y.key) (sym (same_frame x some)) ∙ k where
-              same_frame : (x : SentFrame) → ◌≡◌ {A = Option SentFrame} (Some x) (Some frame) → x ≡ frame
-              same_frame x e = same_Some x frame e
+              first_is_key : (frame : SentFrame) → slice_get sender.frames 0 ≡ Some frame → frame.key ≡ true
+              first_is_key frame there = here (slice_get sender.frames 0) there honest.from_key where
+                here : (o : Option SentFrame) → o ≡ Some frame → IfSome o (λ x. x.key ≡ true) → frame.key ≡ true
+                here None none k = absurd (none-some frame none)
+                here (Some x) some k = ap (λ (y : SentFrame). y.key) (sym (same_frame x some)) ∙ k where
+                  same_frame : (x : SentFrame) → ◌≡◌ {A = Option SentFrame} (Some x) (Some frame) → x ≡ frame
+                  same_frame x e = same_Some x frame e
         by_key (suc g) ready r false is =
             by_follow (suc g) g ready.complete.first r
             (λ run there. of_all (λ x. x.last < ready.complete.first)
@@ -423,47 +429,48 @@ module _ (are : RunsAre) (settings : Settings) (codec : Meaning) (sender : Sende
         last_follows g reference =
             by_runs fs (latest (snapshots settings codec h)).pulled front_now holds.pulled holds.front refl refl
             refl where
-          says : (is_frame.frame.key ≡ false) × (g + 1 ≡ f)
-          says = some_holds (λ frame. (frame.key ≡ false) × (g + 1 ≡ f))
-              (slice_get sender.frames f) is_frame.frame is_frame.sent reference
+              says : (is_frame.frame.key ≡ false) × (g + 1 ≡ f)
+              says = some_holds (λ frame. (frame.key ≡ false) × (g + 1 ≡ f))
+                  (slice_get sender.frames f) is_frame.frame is_frame.sent reference
 
-          evident : (is_some pulled_now ≡ true) × (is_passed front_now (run.first - 1) ≡ true)
-          evident = next_evident pulled_now front_now run answer_deliverable (is_frame.key ∙ says.0)
+              evident : (is_some pulled_now ≡ true) × (is_passed front_now (run.first - 1) ≡ true)
+              evident = next_evident pulled_now front_now run answer_deliverable (is_frame.key ∙ says.0)
 
-          by_runs : (places : List ℕ) (runs : List Run) (front : Option ℕ) →
-              ArePulled settings codec sender honest js places runs → IsFrontOf sender js (last_pulled runs) front →
-              front_now ≡ front → (latest (snapshots settings codec h)).pulled ≡ runs → fs ≡ places →
-              IsLastPulled g run.first
-          by_runs [] [] front p of same there those =
-              absurd (true≢false (sym evident.0 ∙ ap (λ rs. is_some (last_pulled rs)) there))
-          by_runs [] (old ∷ runs) front p of same there those = absurd p
-          by_runs (k ∷ ks) [] front p of same there those = absurd p
-          by_runs (k ∷ ks) (old ∷ runs) None p of same there those = absurd of
-          by_runs (k ∷ ks) (old ∷ runs) (Some front) p of same there those =
-              let beyond : old.last < run.first =
+              by_runs : (places : List ℕ) (runs : List Run) (front : Option ℕ) →
+                  ArePulled settings codec sender honest js places runs →
+                  IsFrontOf sender js (last_pulled runs) front →
+                  front_now ≡ front → (latest (snapshots settings codec h)).pulled ≡ runs → fs ≡ places →
+                  IsLastPulled g run.first
+              by_runs [] [] front p of same there those =
+                  absurd (true≢false (sym evident.0 ∙ ap (λ rs. is_some (last_pulled rs)) there))
+              by_runs [] (old ∷ runs) front p of same there those = absurd p
+              by_runs (k ∷ ks) [] front p of same there those = absurd p
+              by_runs (k ∷ ks) (old ∷ runs) None p of same there those = absurd of
+              by_runs (k ∷ ks) (old ∷ runs) (Some front) p of same there those =
+                  let beyond : old.last < run.first =
                   subst (λ rs. IfSome (last_pulled rs) (λ last. last < run.first)) there
                   (stands-beyond pulled_now run answer_stands) in
-              let passed : run.first - 1 ≤ front =
+                  let passed : run.first - 1 ≤ front =
                   leb-true (run.first - 1) front (sym (ap (λ o. is_passed o (run.first - 1)) same) ∙ evident.1) in
-              let less : k < f = frame_after settings codec sender honest js k f p.0.sent is_frame.frame old.first
+                  let less : k < f = frame_after settings codec sender honest js k f p.0.sent is_frame.frame old.first
                   old.last run.first p.0.is p.0.numbered is_frame.sent (first_place f run is_frame) beyond in
-              let span = one_span settings codec sender honest k p.0.sent p.0.numbered.from p.0.numbered.to p.0.is
+                  let span = one_span settings codec sender honest k p.0.sent p.0.numbered.from p.0.numbered.to p.0.is
                   p.0.numbered.spans in
-              let k_is : k + 1 ≡ f = next_over_empty js k f is_frame.frame p.0.numbered.to old.last run.first
+                  let k_is : k + 1 ≡ f = next_over_empty js k f is_frame.frame p.0.numbered.to old.last run.first
                   is_frame.sent less p.0.numbered.last_is span.1 (first_place f run is_frame) beyond
                   (λ m above below. of.1 m above (omega arith)) in
-              let g_is : g + 1 ≡ f = says.1 in
-              let same_place : k ≡ g = omega arith in
-              record {
-                among = subst (λ xs. Contains xs g) (sym those)
-                    (subst (λ (x : ℕ). Contains (k ∷ ks) x) same_place (Contains-head k ks));
-                follows = record {
-                  run = old;
-                  pulled = subst (λ xs. Contains xs old) (sym there) (Contains-head old runs);
-                  numbered = subst (λ (x : ℕ). HasNumbers sender js x old.first old.last) same_place p.0.numbered;
-                  evident = λ n above below. ap (λ o. is_passed o n) same ∙ le-leb n front (omega arith);
-                };
-              }
+                  let g_is : g + 1 ≡ f = says.1 in
+                  let same_place : k ≡ g = omega arith in
+                  record {
+                    among = subst (λ xs. Contains xs g) (sym those)
+                        (subst (λ (x : ℕ). Contains (k ∷ ks) x) same_place (Contains-head k ks));
+                    follows = record {
+                      run = old;
+                      pulled = subst (λ xs. Contains xs old) (sym there) (Contains-head old runs);
+                      numbered = subst (λ (x : ℕ). HasNumbers sender js x old.first old.last) same_place p.0.numbered;
+                      evident = λ n above below. ap (λ o. is_passed o n) same ∙ le-leb n front (omega arith);
+                    };
+                  }
 
         -- each rule reference of the frame is the last one pulled
         reference_last : (g : ℕ) → IsRuleReference sender f g → IsLastPulled g run.first
@@ -492,10 +499,10 @@ module _ (are : RunsAre) (settings : Settings) (codec : Meaning) (sender : Sende
           | inl passed ↦ inr (inl passed)
           | inr stood_behind ↦
               let t : (packets : Packets) × Contains (times (snapshots settings codec h)) packets
-                  × (stands_after_end n packets ≡ true) =
-                  list_any-from (stands_after_end n) (times (snapshots settings codec h)) stood_behind in
+              × (stands_after_end n packets ≡ true) =
+              list_any-from (stands_after_end n) (times (snapshots settings codec h)) stood_behind in
               let both : (is_available n t.0 ≡ true) × (option_map_or ends_frame (at (n - 1) t.0) false ≡ true) =
-                  and_parts _ _ t.2 in
+              and_parts _ _ t.2 in
               inr (inr (t.0, t.1, both.0, ap is_some (there_tested ends_frame (at (n - 1) t.0) both.1).1))
         ]
 
@@ -507,23 +514,23 @@ module _ (are : RunsAre) (settings : Settings) (codec : Meaning) (sender : Sende
               SaysStart codec packet
           says (Media g k text) there start_is =
               let same : piece.text ≡ text =
-                  ap media_text (same_Some (contents.Media piece.text) (contents.Media text)
-                  (sym piece.media ∙ there)) in
+              ap media_text (same_Some (contents.Media piece.text) (contents.Media text)
+              (sym piece.media ∙ there)) in
               (p.packet, p.part, sym (ap read same) ∙ piece.reads, piece.part_reads, start_is)
           says Empty there start_is =
               absurd (no_text piece.text
               (same_Some (contents.Media piece.text) contents.Empty (sym piece.media ∙ there))) where
-            no_text : (text : List ℕ) → contents.Media text ≡ contents.Empty → ⊥
-            no_text text e = absurd (cc)
+                no_text : (text : List ℕ) → contents.Media text ≡ contents.Empty → ⊥
+                no_text text e = absurd (cc)
 
           sent_says : p.part.start ≡ Yes → IsSomeAnd (slice_get sender.packets i) (SaysStart codec)
           sent_says start_is =
               let packets : Packets = packets_now in
               let k = kept-there sender js n packets holds.took.here.kept (ap is_some piece.media) in
               let q : (packet : SentPacket) × (slice_get sender.packets k.0 ≡ Some packet)
-                  × (at n packets ≡ Some (content_sent packet)) =
-                  some_there (λ packet. at n packets ≡ Some (content_sent packet))
-                  (slice_get sender.packets k.0) k.2 in
+              × (at n packets ≡ Some (content_sent packet)) =
+              some_there (λ packet. at n packets ≡ Some (content_sent packet))
+              (slice_get sender.packets k.0) k.2 in
               subst (λ (x : ℕ). IsSomeAnd (slice_get sender.packets x) (SaysStart codec))
               (one-place sender js k.0 i n k.1 numbered)
               (some_from (SaysStart codec) (slice_get sender.packets k.0) q.0 q.1 (says q.0 q.2 start_is))
@@ -548,11 +555,11 @@ module _ (are : RunsAre) (settings : Settings) (codec : Meaning) (sender : Sende
               absurd (omega arith)
           by_pieces r (p ∷ ps) those =
               let piece : IsPiece codec packets_now run.first p =
-                  (subst (ArePieces codec packets_now run.first) those r.from_first).0 in
+              (subst (ArePieces codec packets_now run.first) those r.from_first).0 in
               let start : AllByRecursion (λ q. (is_start front_now began q ≡ true) ↔ (q.number ≡ run.first))
-                  (p ∷ ps) = subst (AllByRecursion
-                  (λ q. (is_start front_now began q ≡ true) ↔ (q.number ≡ run.first))) those
-                  (recursion_from_All _ r.pieces r.start) in
+              (p ∷ ps) = subst (AllByRecursion
+              (λ q. (is_start front_now began q ≡ true) ↔ (q.number ≡ run.first))) those
+              (recursion_from_All _ r.pieces r.start) in
               piece_evident i run.first p numbered piece (start.0.1 piece.number)
 
         -- it is ready
@@ -576,7 +583,7 @@ module _ (are : RunsAre) (settings : Settings) (codec : Meaning) (sender : Sende
         answer_first g ready =
             let r : IsRunOf g ready.complete.first = complete_run g ready.complete in
             let upto : run.first ≤ r.run.first =
-                answer-least pulled_now front_now runs_now run r.run is r.there (ready_deliverable g ready r) in
+            answer-least pulled_now front_now runs_now run r.run is r.there (ready_deliverable g ready r) in
             frame_upto settings codec sender honest f g r.is_frame.frame r.is_frame.sent
             (slice_get_within sender.frames f is_frame.frame is_frame.sent)
             (IsNumber-upto sender js (honest.place f) (honest.place g) run.first r.run.first
@@ -613,8 +620,8 @@ module _ (are : RunsAre) (settings : Settings) (codec : Meaning) (sender : Sende
         answer_key none = first_key front_now run
             (subst (λ (o : Option ℕ). is_deliverable o front_now run ≡ true)
             (no_last fs (latest (snapshots settings codec h)).pulled holds.pulled none) answer_deliverable) where
-          no_last : (places : List ℕ) (runs : List Run) → ArePulled settings codec sender honest js places runs →
-              places ≡ [] → last_pulled runs ≡ None
-          no_last [] [] p e = refl
-          no_last [] (old ∷ runs) p e = absurd p
-          no_last (k ∷ ks) runs p e = absurd (cc)
+              no_last : (places : List ℕ) (runs : List Run) → ArePulled settings codec sender honest js places runs →
+                  places ≡ [] → last_pulled runs ≡ None
+              no_last [] [] p e = refl
+              no_last [] (old ∷ runs) p e = absurd p
+              no_last (k ∷ ks) runs p e = absurd (cc)

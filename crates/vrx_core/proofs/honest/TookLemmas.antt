@@ -62,7 +62,10 @@ module _ (sender : Sender) where
   pub opening-took : Took (opening ∷ []) []
   opening-took = record {
     here = record {
-        newest = refl; kept = tt; keeps = record { from = λ n h. absurd (cc); all = λ i n c is near. absurd is } };
+      newest = refl;
+      kept = tt;
+      keeps = record { from = λ n h. absurd (cc); all = λ i n c is near. absurd is };
+    };
     were = (tt, tt);
   }
 
@@ -80,7 +83,7 @@ module _ (sender : Sender) where
         Took (after_datagram codec past moment (verdict settings codec (latest past).window octets) ∷ past) js
     aside-took octets aside =
         let v : (left : NotTaken) × (verdict settings codec (latest past).window octets ≡ Err left) =
-            verdict_aside settings codec (latest past).window octets aside in
+        verdict_aside settings codec (latest past).window octets aside in
         subst (λ (r : Result (ℕ × Content) NotTaken). Took (after_datagram codec past moment r ∷ past) js) (sym v.1)
         (still-took past js (after_datagram codec past moment (Err v.0)) refl t)
 
@@ -102,15 +105,15 @@ module _ (sender : Sender) where
     content_sent_verdict i octets b near (Ok (n, content)) is =
         let window : Contents Content = (latest past).window in
         let took : (extended_number window.newest (wire_of sender i) ≡ Some n) × (content ≡ content_sent b.packet)
-            × (would_of window n ≡ placings.Fresh) =
-            verdict_taken settings codec window octets
-            (record { wire = wire_of sender i; content = content_sent b.packet }) n content b.is is in
+        × (would_of window n ≡ placings.Fresh) =
+        verdict_taken settings codec window octets
+        (record { wire = wire_of sender i; content = content_sent b.packet }) n content b.is is in
         let numbered : IsNumber sender (i ∷ js) i n =
-            taken-number meant sender js window.newest i n t.here.newest near took.0 in
+        taken-number meant sender js window.newest i n t.here.newest near took.0 in
         let fresh : IsNewestOf sender (i ∷ js) (Some (newest_with window.newest n)) =
-            taken-newest meant sender js window.newest i n t.here.newest near took.0 in
+        taken-newest meant sender js window.newest i n t.here.newest near took.0 in
         let kept : AreKept sender (i ∷ js) (entries_with (newest_with window.newest n) n content window.packets) =
-            placed-kept sender (i ∷ js) (newest_with window.newest n) n content window.packets
+        placed-kept sender (i ∷ js) (newest_with window.newest n) n content window.packets
         (taken-kept i n b.packet content b.sent took.1 numbered)
         (grown-kept sender js i window.packets t.here.kept) in
         record {

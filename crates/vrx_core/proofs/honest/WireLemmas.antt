@@ -49,9 +49,9 @@ none_bad type others e =
 good_type : (settings : Settings) → fault_of settings ≡ None → is_bad_type settings.media_type ≡ false
 good_type settings none =
     let others : List (Option ℕ) =
-        option_map (λ red. red.red_type) settings.red ∷ option_and_then (λ red. red.fec_type) settings.red
-        ∷ option_map (λ rtx. rtx.media_rtx_type) settings.rtx ∷ option_and_then (λ rtx. rtx.red_rtx_type) settings.rtx
-        ∷ [] in
+    option_map (λ red. red.red_type) settings.red ∷ option_and_then (λ red. red.fec_type) settings.red
+    ∷ option_map (λ rtx. rtx.media_rtx_type) settings.rtx ∷ option_and_then (λ rtx. rtx.red_rtx_type) settings.rtx
+    ∷ [] in
     none_bad settings.media_type others (none_first (list_any is_bad_type (types_of settings)) BadType
     (first_of (has_equal (types_of settings)) SameType
     (first_of (has_equal (ssrcs_of settings)) SameSsrc
@@ -68,12 +68,12 @@ type_between false type below least most = absurd (omega arith)
 not_rtcp : (octets : List ℕ) (p : Packet) → IsPacket octets p → is_bad_type p.pt ≡ false → is_rtcp octets ≡ false
 not_rtcp octets p is good =
     false_from_ne_true (is_rtcp octets) (λ h. bad (subst IsRtcp is.spelled (rtcp-to octets h))) where
-  bad : IsRtcp (octets_with is.filler p) → ⊥
-  bad r =
-      let between : (64 ≤ p.pt) × (p.pt ≤ 95) = type_between p.marker p.pt is.fits.pt r.at_least r.at_most in
-      both_ways (is_bad_type p.pt) good
-      (or_left (nat_le 64 p.pt && nat_le p.pt 95) (nat_lt 127 p.pt)
-      (and_from (nat_le 64 p.pt) (nat_le p.pt 95) (le-leb 64 p.pt between.0) (le-leb p.pt 95 between.1)))
+      bad : IsRtcp (octets_with is.filler p) → ⊥
+      bad r =
+          let between : (64 ≤ p.pt) × (p.pt ≤ 95) = type_between p.marker p.pt is.fits.pt r.at_least r.at_most in
+          both_ways (is_bad_type p.pt) good
+          (or_left (nat_le 64 p.pt && nat_le p.pt 95) (nat_lt 127 p.pt)
+          (and_from (nat_le 64 p.pt) (nat_le p.pt 95) (le-leb 64 p.pt between.0) (le-leb p.pt 95 between.1)))
 
 -- a payload that the codec reads as a part without layers brings its text
 pub content-media : (codec : Meaning) (text payload : List ℕ) (part : Part) → payload ≢ [] →
@@ -93,8 +93,8 @@ module _ (law : ReadsPacket) (settings : Settings) (codec : Meaning) (good : fau
       let reads_ok : reading octets ≡ Ok packet = reading-ok (reading octets) packet reads in
       let not_long : nat_lt MOST_OCTETS (length octets) ≡ false = le-ltb MOST_OCTETS (length octets) size in
       let other : is_rtcp octets ≡ false =
-          not_rtcp octets packet ((law octets packet below).0 reads_ok)
-          (ap is_bad_type type ∙ good_type settings good) in
+      not_rtcp octets packet ((law octets packet below).0 reads_ok)
+      (ap is_bad_type type ∙ good_type settings good) in
       let made : Content → Original = λ c. record { wire = packet.seq; content = c } in
       ap (λ b. if b then Err (Refused TooLong) else if is_rtcp octets then Err (control octets)
       else result_map_both (λ (p : Original). p) Refused (original_read settings codec (reading octets))) not_long
@@ -153,10 +153,10 @@ module _ (law : ReadsPacket) (settings : Settings) (codec : Meaning) (good : fau
       (w : IsPadded carried.text octets) → without_padding w.packet ≡ carried.packet
   padded_packet octets wire carried m w =
       let is : IsPacket octets w.packet =
-          (law octets w.packet w.below).0 (reading-ok (reading octets) w.packet w.reads) in
+      (law octets w.packet w.below).0 (reading-ok (reading octets) w.packet w.reads) in
       let again : reading (packet_text w.packet) ≡ Ok (without_padding w.packet) =
-          (law (packet_text w.packet) (without_padding w.packet) (subst AreOctets (sym w.spelled) m.below)).1
-          (text-packet w.packet is.fits) in
+      (law (packet_text w.packet) (without_padding w.packet) (subst AreOctets (sym w.spelled) m.below)).1
+      (text-packet w.packet is.fits) in
       same_Some (without_padding w.packet) carried.packet (sym (ap result_ok again) ∙ ap read w.spelled ∙ m.reads)
 
   -- a media packet's text with padding
@@ -185,10 +185,10 @@ module _ (law : ReadsPacket) (settings : Settings) (codec : Meaning) (good : fau
       original settings codec octets ≡ Ok (record { wire = wire_of sender i; content = contents.Media text })
   original_by f k text there form =
       let s : IsSent settings codec sender honest i =
-          packet_sent settings codec sender honest i (Media f k text) there tt in
+      packet_sent settings codec sender honest i (Media f k text) there tt in
       let m : IsMedia settings codec (wire_of sender i) s.carried = s.part.media in
       let same : s.carried.text ≡ text =
-          ap text_sent (same_Some (Media s.f s.k s.carried.text) (Media f k text) (sym s.part.sent ∙ there)) in
+      ap text_sent (same_Some (Media s.f s.k s.carried.text) (Media f k text) (sym s.part.sent ∙ there)) in
       ap_text same (either s.carried m
       (subst (λ t. IsWireForm settings (wire_of sender i) (Media f k t) octets) (sym same) form)) where
         ap_text : {x y : List ℕ} → x ≡ y →
@@ -212,14 +212,17 @@ module _ (law : ReadsPacket) (settings : Settings) (codec : Meaning) (good : fau
       record { packet = Media f k text; sent = there; is = original_by f k text there form }
   brings_packet Empty there form =
       record {
-      packet = Empty; sent = there; is = empty-original law settings codec good octets (wire_of sender i) form }
+        packet = Empty;
+        sent = there;
+        is = empty-original law settings codec good octets (wire_of sender i) form;
+      }
 
   -- a wire form of an honest sender's packet brings it
   pub brings : IsSomeAnd (slice_get sender.packets i)
       (λ packet. IsWireForm settings (wire_of sender i) packet octets) → Brings settings codec sender i octets
   brings wire =
       let p : (packet : SentPacket) × (slice_get sender.packets i ≡ Some packet)
-          × IsWireForm settings (wire_of sender i) packet octets =
-          some_there (λ packet. IsWireForm settings (wire_of sender i) packet octets)
-          (slice_get sender.packets i) wire in
+      × IsWireForm settings (wire_of sender i) packet octets =
+      some_there (λ packet. IsWireForm settings (wire_of sender i) packet octets)
+      (slice_get sender.packets i) wire in
       brings_packet p.0 p.1 p.2

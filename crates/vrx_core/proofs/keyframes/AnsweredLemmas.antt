@@ -137,7 +137,7 @@ all-above : {X : Type 0} (number : X → ℕ) (n : ℕ) (xs : List X) → list_a
 all-above number n [] h = tt
 all-above number n (x ∷ xs) h =
     let p : (nat_lt n (number x) ≡ true) × (list_all (λ y. nat_lt n (number y)) xs ≡ true) =
-        and_parts (nat_lt n (number x)) (list_all (λ y. nat_lt n (number y)) xs) h in
+    and_parts (nat_lt n (number x)) (list_all (λ y. nat_lt n (number y)) xs) h in
     (ltb-true n (number x) p.0, all-above number n xs p.1)
 
 -- a list rises if the test says so
@@ -145,7 +145,7 @@ pub rises-by : {X : Type 0} (number : X → ℕ) (xs : List X) → rises_by numb
 rises-by number [] h = tt
 rises-by number (x ∷ xs) h =
     let p : (list_all (λ y. nat_lt (number x) (number y)) xs ≡ true) × (rises_by number xs ≡ true) =
-        and_parts (list_all (λ y. nat_lt (number x) (number y)) xs) (rises_by number xs) h in
+    and_parts (list_all (λ y. nat_lt (number x) (number y)) xs) (rises_by number xs) h in
     (all-above number (number x) xs p.0, rises-by number xs p.1)
 
 -- asks too
@@ -153,7 +153,7 @@ pub asks-rise : (asks : List Ask) → rises asks ≡ true → Rises (λ (ask : A
 asks-rise [] h = tt
 asks-rise (ask ∷ asks) h =
     let p : (list_all (λ (other : Ask). nat_lt ask.number other.number) asks ≡ true) × (rises asks ≡ true) =
-        and_parts (list_all (λ (other : Ask). nat_lt ask.number other.number) asks) (rises asks) h in
+    and_parts (list_all (λ (other : Ask). nat_lt ask.number other.number) asks) (rises asks) h in
     (all-above (λ (other : Ask). other.number) ask.number asks p.0, asks-rise asks p.1)
 
 -- so the last of the numbers that a tick gives up is the greatest
@@ -243,12 +243,12 @@ begin-before : (frames : List Run) (n : ℕ) → Rise frames → IfSome (last_pu
 begin-before [] n rise beyond = tt
 begin-before (frame ∷ before) n rise beyond =
     (upto, begin-before before n rise.2 (further (last_pulled before) rise.1)) where
-  upto : frame.first < n
-  upto = let within : frame.first ≤ frame.last = rise.0 in omega (arith, beyond)
+      upto : frame.first < n
+      upto = let within : frame.first ≤ frame.last = rise.0 in omega (arith, beyond)
 
-  further : (o : Option ℕ) → IfSome o (λ last. last < frame.first) → IfSome o (λ last. last < n)
-  further None less = tt
-  further (Some last) less = omega (arith, less, upto)
+      further : (o : Option ℕ) → IfSome o (λ last. last < frame.first) → IfSome o (λ last. last < n)
+      further None less = tt
+      further (Some last) less = omega (arith, less, upto)
 
 -- frames that rise fall from the newest to the oldest
 pub falls-from : (frames : List Run) → Rise frames → Falls frames

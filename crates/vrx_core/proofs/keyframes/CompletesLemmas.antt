@@ -49,7 +49,7 @@ none-begins : (n : ℕ) (frames : List RunSummary) → ((f : RunSummary) → Con
     stands n frames ≡ false
 none-begins n frames none = false_from_ne_true (stands n frames) (λ h.
     let f : (run : RunSummary) × Contains frames run × ((run.first == n) ≡ true) =
-        list_any-from (λ (run : RunSummary). run.first == n) frames h in none f.0 f.1 (eqb-true f.0.first n f.2))
+    list_any-from (λ (run : RunSummary). run.first == n) frames h in none f.0 f.1 (eqb-true f.0.first n f.2))
 
 -- and a run stands at its first number
 begins-there : (frames : List RunSummary) (f : RunSummary) → Contains frames f → stands f.first frames ≡ true
@@ -67,31 +67,31 @@ pub added-completes : (low : ℕ) (frames answers : List RunSummary) → Apart a
 added-completes low frames answers apart =
     same_test (completes_told frames (with_runs answers (runs_from low frames)))
     (list_any (λ (run : RunSummary). run.key) answers) to back where
-  to : completes_told frames (with_runs answers (runs_from low frames)) ≡ true →
-      list_any (λ (run : RunSummary). run.key) answers ≡ true
-  to h =
-      let r : (run : RunSummary) × Contains (with_runs answers (runs_from low frames)) run
+      to : completes_told frames (with_runs answers (runs_from low frames)) ≡ true →
+          list_any (λ (run : RunSummary). run.key) answers ≡ true
+      to h =
+          let r : (run : RunSummary) × Contains (with_runs answers (runs_from low frames)) run
           × (is_new frames run ≡ true) = list_any-from (is_new frames) (with_runs answers (runs_from low frames)) h in
-      let p : (r.0.key ≡ true) × (not (stands r.0.first frames) ≡ true) =
+          let p : (r.0.key ≡ true) × (not (stands r.0.first frames) ≡ true) =
           and_parts r.0.key (not (stands r.0.first frames)) r.2 in
-      elim (with-from answers (runs_from low frames) r.0 r.1) [
-        | inl new ↦ list_any-to (λ (run : RunSummary). run.key) answers r.0 new p.0
-        | inr old ↦
-            let there : stands r.0.first frames ≡ true =
+          elim (with-from answers (runs_from low frames) r.0 r.1) [
+            | inl new ↦ list_any-to (λ (run : RunSummary). run.key) answers r.0 new p.0
+            | inr old ↦
+                let there : stands r.0.first frames ≡ true =
                 begins-there frames r.0 (filter-from (λ (run : RunSummary). nat_le low run.first) frames r.0 old).0 in
-            let not_there : stands r.0.first frames ≡ false = not-true (stands r.0.first frames) p.1 in
-            absurd (cc (there, not_there))
-      ]
+                let not_there : stands r.0.first frames ≡ false = not-true (stands r.0.first frames) p.1 in
+                absurd (cc (there, not_there))
+          ]
 
-  back : list_any (λ (run : RunSummary). run.key) answers ≡ true →
-      completes_told frames (with_runs answers (runs_from low frames)) ≡ true
-  back h =
-      let a : (run : RunSummary) × Contains answers run × (run.key ≡ true) =
+      back : list_any (λ (run : RunSummary). run.key) answers ≡ true →
+          completes_told frames (with_runs answers (runs_from low frames)) ≡ true
+      back h =
+          let a : (run : RunSummary) × Contains answers run × (run.key ≡ true) =
           list_any-from (λ (run : RunSummary). run.key) answers h in
-      list_any-to (is_new frames) (with_runs answers (runs_from low frames)) a.0
-      (with-answers answers (runs_from low frames) a.0 a.1)
-      (and_from a.0.key (not (stands a.0.first frames)) a.2
-      (not_from_false (stands a.0.first frames) (none-begins a.0.first frames (λ f d. apart a.0 a.1 f d))))
+          list_any-to (is_new frames) (with_runs answers (runs_from low frames)) a.0
+          (with-answers answers (runs_from low frames) a.0 a.1)
+          (and_from a.0.key (not (stands a.0.first frames)) a.2
+          (not_from_false (stands a.0.first frames) (none-begins a.0.first frames (λ f d. apart a.0 a.1 f d))))
 
 -- no answer begins where a run stands, if none does among those that are left, and each begins among their numbers
 pub apart-from : (low : ℕ) (frames answers : List RunSummary) → Apart answers (runs_from low frames) →

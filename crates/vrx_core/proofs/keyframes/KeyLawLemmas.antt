@@ -52,7 +52,7 @@ datagram-asks : (codec : Meaning) (past : List Snapshot) (moment : ℕ) (v : Res
 datagram-asks codec past moment (Err left) = asks-nothing past (moved (latest past) moment) (omega arith) refl
 datagram-asks codec past moment (Ok (n, content)) =
     let s : Snapshot = after_settling codec past
-        (record (moved (latest past) moment) { window = after_placing n content (latest past).window }) in
+    (record (moved (latest past) moment) { window = after_placing n content (latest past).window }) in
     let given : Snapshot = with_requests past s in
     asks-by (list_any (λ n. not (is_answered s n)) (lost_by_packet past s)) past given (omega arith)
 
@@ -114,15 +114,15 @@ open-since [] t older all asked =
     (λ m. t.now ≤ m)) (sym asked) (omega arith))
 open-since (u ∷ between) t older all asked =
     by u.key_asked u.key_completed refl (open-since between t older all.1 asked) where
-  by : (a c : Bool) → u.key_completed ≡ c
-      → Any (λ (v : Snapshot). v.key_completed ≡ true) between
-      ⊎ IsSomeAnd (open_request (between ++ t ∷ older)) (λ m. t.now ≤ m)
-      → Any (λ (v : Snapshot). v.key_completed ≡ true) (u ∷ between)
-      ⊎ IsSomeAnd (cond a (Some u.now) (cond c None (open_request (between ++ t ∷ older)))) (λ m. t.now ≤ m)
-  by true c is rest = inr (clock-upto (u ∷ between) t older all)
-  by false true is rest = inl (any-here u between is)
-  by false false is (inl some) = inl (any-later u between some)
-  by false false is (inr opened) = inr opened
+      by : (a c : Bool) → u.key_completed ≡ c
+          → Any (λ (v : Snapshot). v.key_completed ≡ true) between
+          ⊎ IsSomeAnd (open_request (between ++ t ∷ older)) (λ m. t.now ≤ m)
+          → Any (λ (v : Snapshot). v.key_completed ≡ true) (u ∷ between)
+          ⊎ IsSomeAnd (cond a (Some u.now) (cond c None (open_request (between ++ t ∷ older)))) (λ m. t.now ≤ m)
+      by true c is rest = inr (clock-upto (u ∷ between) t older all)
+      by false true is rest = inl (any-here u between is)
+      by false false is (inl some) = inl (any-later u between some)
+      by false false is (inr opened) = inr opened
 
 -- a request that isn't outstanding lies long ago
 long-ago : (now since : ℕ) (o : Option ℕ) → IsSomeAnd o (λ m. since ≤ m) → is_outstanding now o ≡ false →
@@ -137,14 +137,14 @@ apart-in : (s : Snapshot) (between : List Snapshot) (t : Snapshot) (older : List
     → (t.now + KEY_REQUEST_WAIT ≤ s.now) ⊎ Any (λ (u : Snapshot). u.key_completed ≡ true) (s ∷ between)
 apart-in s between t older all asked asked' =
     by s.key_completed refl ((all.0).none_open asked) (open-since between t older all.1 asked') where
-  by : (c : Bool) → s.key_completed ≡ c →
-      is_outstanding s.now (cond c None (open_request (between ++ t ∷ older))) ≡ false
-      → Any (λ (u : Snapshot). u.key_completed ≡ true) between
-      ⊎ IsSomeAnd (open_request (between ++ t ∷ older)) (λ m. t.now ≤ m)
-      → (t.now + KEY_REQUEST_WAIT ≤ s.now) ⊎ Any (λ (u : Snapshot). u.key_completed ≡ true) (s ∷ between)
-  by true is out rest = inr (any-here s between is)
-  by false is out (inl some) = inr (any-later s between some)
-  by false is out (inr opened) = inl (long-ago s.now t.now (open_request (between ++ t ∷ older)) opened out)
+      by : (c : Bool) → s.key_completed ≡ c →
+          is_outstanding s.now (cond c None (open_request (between ++ t ∷ older))) ≡ false
+          → Any (λ (u : Snapshot). u.key_completed ≡ true) between
+          ⊎ IsSomeAnd (open_request (between ++ t ∷ older)) (λ m. t.now ≤ m)
+          → (t.now + KEY_REQUEST_WAIT ≤ s.now) ⊎ Any (λ (u : Snapshot). u.key_completed ≡ true) (s ∷ between)
+      by true is out rest = inr (any-here s between is)
+      by false is out (inl some) = inr (any-later s between some)
+      by false is out (inr opened) = inl (long-ago s.now t.now (open_request (between ++ t ∷ older)) opened out)
 
 -- requests for a keyframe lie apart
 pub key-requests-apart : KeyRequestsApartHold
@@ -224,7 +224,7 @@ datagram-loss : (codec : Meaning) (past : List Snapshot) (moment : ℕ) (v : Res
 datagram-loss codec past moment (Err left) n there unanswered = absurd (Contains-empty n there)
 datagram-loss codec past moment (Ok (k, content)) n there unanswered =
     let s : Snapshot = after_settling codec past
-        (record (moved (latest past) moment) { window = after_placing k content (latest past).window }) in
+    (record (moved (latest past) moment) { window = after_placing k content (latest past).window }) in
     asks-or-waits (list_any (λ n. not (is_answered s n)) (lost_by_packet past s)) past (with_requests past s)
     (some-open s (lost_by_packet past s) n there unanswered)
 

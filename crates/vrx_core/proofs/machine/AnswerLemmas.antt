@@ -46,16 +46,16 @@ least-upto [] run other is c = absurd (none-some run is)
 least-upto (r ∷ rs) run other is c =
     subst (λ x. x.first ≤ other.first) (same_Some (lesser r (least rs)) run is)
     (either (λ q some d. least-upto rs q other some d) (Contains-either r rs other c)) where
-  among : ((q : Run) → least rs ≡ Some q → Contains rs other → q.first ≤ other.first) → (l : Option Run) →
-      least rs ≡ l → Contains rs other → (lesser r l).first ≤ other.first
-  among each None none d = absurd (none_left rs none other d)
-  among each (Some q) some d = let first : (lesser r (Some q)).first ≤ q.first =
-      lesser-there r q in let rest : q.first ≤ other.first = each q some d in omega arith
+      among : ((q : Run) → least rs ≡ Some q → Contains rs other → q.first ≤ other.first) → (l : Option Run) →
+          least rs ≡ l → Contains rs other → (lesser r l).first ≤ other.first
+      among each None none d = absurd (none_left rs none other d)
+      among each (Some q) some d = let first : (lesser r (Some q)).first ≤ q.first =
+          lesser-there r q in let rest : q.first ≤ other.first = each q some d in omega arith
 
-  either : ((q : Run) → least rs ≡ Some q → Contains rs other → q.first ≤ other.first) →
-      (r ≡ other) ⊎ Contains rs other → (lesser r (least rs)).first ≤ other.first
-  either each (inl same) = subst (λ x. (lesser r (least rs)).first ≤ x.first) same (lesser-here r (least rs))
-  either each (inr later) = among each (least rs) refl later
+      either : ((q : Run) → least rs ≡ Some q → Contains rs other → q.first ≤ other.first) →
+          (r ≡ other) ⊎ Contains rs other → (lesser r (least rs)).first ≤ other.first
+      either each (inl same) = subst (λ x. (lesser r (least rs)).first ≤ x.first) same (lesser-here r (least rs))
+      either each (inr later) = among each (least rs) refl later
 
 -- the answer is one of the runs, and is deliverable
 pub answer-given : (pulled front : Option ℕ) (rs : List Run) (run : Run) → answer pulled front rs ≡ Some run →
@@ -98,12 +98,17 @@ none-answer pulled front rs none = by_answer (answer pulled front rs) refl where
 pub answers_are : AnswersHold
 answers_are pulled front rs =
     record {
-    none = (answer-none pulled front rs, none-answer pulled front rs); some =
-    by_answer (answer pulled front rs) refl } where
-  by_answer : (o : Option Run) → answer pulled front rs ≡ o → IfSome o (λ run. IsLeastDeliverable pulled front rs run)
-  by_answer None is = tt
-  by_answer (Some run) is =
-      let given : Contains rs run × (is_deliverable pulled front run ≡ true) = answer-given pulled front rs run is in
-      record {
-          among = given.0; deliverable = given.1; least =
-          λ other there deliverable. answer-least pulled front rs run other is there deliverable }
+      none = (answer-none pulled front rs, none-answer pulled front rs);
+      some = by_answer (answer pulled front rs) refl;
+    } where
+      by_answer : (o : Option Run) → answer pulled front rs ≡ o →
+          IfSome o (λ run. IsLeastDeliverable pulled front rs run)
+      by_answer None is = tt
+      by_answer (Some run) is =
+          let given : Contains rs run × (is_deliverable pulled front run ≡ true) =
+          answer-given pulled front rs run is in
+          record {
+            among = given.0;
+            deliverable = given.1;
+            least = λ other there deliverable. answer-least pulled front rs run other is there deliverable;
+          }

@@ -68,10 +68,10 @@ pub placed_old : (newest m n : ℕ) (c content : Content) (packets : Packets) �
     in_window newest n ≡ true → at n packets ≡ Some content → at n (entries_with newest m c packets) ≡ Some content
 placed_old newest m n c content packets apart inside there =
     find-after_placing newest m n c packets ∙ by_test (eq_by_cmp nat_cmp n m) refl where
-  by_test : (b : Bool) → eq_by_cmp nat_cmp n m ≡ b →
-      cond b (Some c) (cond (in_window newest n) (at n packets) None) ≡ Some content
-  by_test true same = absurd (apart (same_key n m same))
-  by_test false other = ap (λ b. cond b (at n packets) None) inside ∙ there
+      by_test : (b : Bool) → eq_by_cmp nat_cmp n m ≡ b →
+          cond b (Some c) (cond (in_window newest n) (at n packets) None) ≡ Some content
+      by_test true same = absurd (apart (same_key n m same))
+      by_test false other = ap (λ b. cond b (at n packets) None) inside ∙ there
 
 -- the newest number isn't below the one placed
 newest-from : (newest : Option ℕ) (n : ℕ) → n ≤ newest_with newest n
@@ -113,8 +113,13 @@ module _ (settings : Settings) (codec : Meaning) (n : ℕ) (content : Content) w
   taken_before : (h : List Event) (e : Event) → WasTaken settings codec h n content →
       WasTaken settings codec (e ∷ h) n content
   taken_before h e w = record {
-      before = w.before; moment = w.moment; octets = w.octets; after = e ∷ w.after; history =
-      ap (λ (t : List Event). e ∷ t) w.history; taken = w.taken }
+    before = w.before;
+    moment = w.moment;
+    octets = w.octets;
+    after = e ∷ w.after;
+    history = ap (λ (t : List Event). e ∷ t) w.history;
+    taken = w.taken;
+  }
 
   -- what is available was taken, and lies in the window
   abbrev Comes : List Event → Contents Content → Type 0
@@ -135,8 +140,8 @@ module _ (settings : Settings) (codec : Meaning) (n : ℕ) (content : Content) w
             let same : m ≡ n = sym new.0 in
             let least : m ≤ newest_with window.newest m = newest-from window.newest m in
             let most : newest_with window.newest m < m + WINDOW =
-                newest-upto window.newest m
-                (fresh-is window m (verdict-taken settings codec window octets m c is).fresh).young in (
+            newest-upto window.newest m
+            (fresh-is window m (verdict-taken settings codec window octets m c is).fresh).young in (
               record {
                 before = h;
                 moment = moment;
@@ -147,8 +152,10 @@ module _ (settings : Settings) (codec : Meaning) (n : ℕ) (content : Content) w
               },
               (omega arith, omega arith),
             )
-        | inr more ↦ (taken_before h (Datagram moment octets) (old more.1).0,
-            window-order (newest_with window.newest m) n more.0)
+        | inr more ↦ (
+          taken_before h (Datagram moment octets) (old more.1).0,
+          window-order (newest_with window.newest m) n more.0,
+        )
       ] where
         ok_with : Content → Result (ℕ × Content) NotTaken
         ok_with x = Ok (n, x)
@@ -164,10 +171,11 @@ module _ (settings : Settings) (codec : Meaning) (n : ℕ) (content : Content) w
   comes (Pull moment ∷ h) there =
       let past : List Snapshot = snapshots settings codec h in
       let same : (after_pull codec past moment (next_run (latest past))).window ≡ (latest past).window =
-          pull_window codec past moment (next_run (latest past)) in
-      let before = comes h (ap (λ (w : Contents Content). at n w.packets) (sym same) ∙ there) in
-      (taken_before h (Pull moment) before.0,
-      subst (λ (w : Contents Content). IsInWindow w.newest n) (sym same) before.1)
+      pull_window codec past moment (next_run (latest past)) in
+      let before = comes h (ap (λ (w : Contents Content). at n w.packets) (sym same) ∙ there) in (
+        taken_before h (Pull moment) before.0,
+        subst (λ (w : Contents Content). IsInWindow w.newest n) (sym same) before.1,
+      )
 
   -- the newest number isn't below this one, which is available with this content while it lies in the window
   record IsStill (window : Contents Content) : Type 0 where
@@ -177,8 +185,9 @@ module _ (settings : Settings) (codec : Meaning) (n : ℕ) (content : Content) w
   -- so it is once it is placed
   still-new : (window : Contents Content) → IsStill (after_placing n content window)
   still-new window = record {
-      upto = newest-from window.newest n; there =
-      λ inside. placed_new (newest_with window.newest n) n content window.packets }
+    upto = newest-from window.newest n;
+    there = λ inside. placed_new (newest_with window.newest n) n content window.packets;
+  }
 
   -- and so it stays when another number is placed
   still-after_placing : (window : Contents Content) (m : ℕ) (c : Content) → IsFresh window m → IsStill window →
@@ -257,8 +266,13 @@ module _ (settings : Settings) (codec : Meaning) (n : ℕ) (content : Content) w
         (still_taken w.before w.moment w.octets w.taken)
     by_after (a ∷ after) is earlier =
         still_next h e (earlier (record {
-        before = w.before; moment = w.moment; octets = w.octets; after = after; history = ap rest_of is; taken =
-        w.taken }))
+          before = w.before;
+          moment = w.moment;
+          octets = w.octets;
+          after = after;
+          history = ap rest_of is;
+          taken = w.taken;
+        }))
 
 -- a number is available exactly if it was taken and lies in the window
 pub available_are : AvailableHolds

@@ -24,7 +24,7 @@ held-says law codec octets seen part text below is brought same =
     let packet : Packet = view seen.packet in
     let kept : TextOf octets packet = texts_are law octets packet below is.reads in
     let said : Says codec seen.packet.payload.now (brings.Media part) =
-        subst (Says codec seen.packet.payload.now) brought is.says in
+    subst (Says codec seen.packet.payload.now) brought is.says in
     let short : length octets ≤ MOST_OCTETS = is.size in
     let shorter : length (packet_text packet) ≤ length octets = text-upto octets packet is.grammar in
     let long : length text ≡ length (packet_text packet) = ap length same in

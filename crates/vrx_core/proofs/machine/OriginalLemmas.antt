@@ -31,11 +31,13 @@ use Rattle.vrx_core.specs.declared.reply.Reason.TheVariants.{TooLong, BadRtcp, N
 pub rtcp-to : (octets : List ℕ) → is_rtcp octets ≡ true → IsRtcp octets
 rtcp-to octets h =
     let a = and_parts (nat_le 2 (length octets) && nat_le 192 (slice_index octets 1))
-        (nat_le (slice_index octets 1) 223) h in
+    (nat_le (slice_index octets 1) 223) h in
     let b = and_parts (nat_le 2 (length octets)) (nat_le 192 (slice_index octets 1)) a.0 in
     record {
-        has_type = leb-true 2 (length octets) b.0; at_least = leb-true 192 (slice_index octets 1) b.1; at_most =
-        leb-true (slice_index octets 1) 223 a.1 }
+      has_type = leb-true 2 (length octets) b.0;
+      at_least = leb-true 192 (slice_index octets 1) b.1;
+      at_most = leb-true (slice_index octets 1) 223 a.1;
+    }
 
 pub rtcp-from : (octets : List ℕ) → IsRtcp octets → is_rtcp octets ≡ true
 rtcp-from octets r = and_from _ _
@@ -101,9 +103,14 @@ module _ (passes : PassesCompounds) (fails : FailsFaults) (settings : Settings) 
   said_part : (packet : Packet) → IsOfStream settings octets packet → packet.payload ≢ [] → (part : Part) →
       codec.read packet.payload ≡ Ok part → (layers : Option Layers) → part.layers ≡ layers
       → Said (refused (made packet (if is_some layers then Err Form else Ok (Media (packet_text packet)))))
-  said_part packet stream some part reads None is =
-      (packet, record {
-      stream = stream; brings = (record { some = some; part = part; reads = reads; plain = is }, refl) }, refl)
+  said_part packet stream some part reads None is = (
+    packet,
+    record {
+      stream = stream;
+      brings = (record { some = some; part = part; reads = reads; plain = is }, refl);
+    },
+    refl,
+  )
   said_part packet stream some part reads (Some layers) is =
       (packet, stream, record { some = some; part = part; layers = layers; reads = reads; has = is })
 

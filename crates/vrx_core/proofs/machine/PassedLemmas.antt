@@ -49,30 +49,30 @@ pub reach_from-from : (fuel from : ℕ) (packets : Packets) → from ≤ reach_f
 reach_from-from zero from packets = omega arith
 reach_from-from (suc fuel) from packets =
     by_step (stands_over packets (from + 1)) (reach_from-from fuel (from + 1) packets) where
-  by_step : (b : Bool) → from + 1 ≤ reach_from fuel (from + 1) packets →
-      from ≤ stepped b (reach_from fuel (from + 1) packets) from
-  by_step true further = omega arith
-  by_step false further = omega arith
+      by_step : (b : Bool) → from + 1 ≤ reach_from fuel (from + 1) packets →
+          from ≤ stepped b (reach_from fuel (from + 1) packets) from
+      by_step true further = omega arith
+      by_step false further = omega arith
 
 -- all numbers on the way are available and no media
 reach_from-over : (fuel from : ℕ) (packets : Packets) → IsOverNoMedia packets from (reach_from fuel from packets)
 reach_from-over zero from packets = λ m above upto. absurd (omega (arith, above, upto))
 reach_from-over (suc fuel) from packets =
     by_step (stands_over packets (from + 1)) refl (reach_from-over fuel (from + 1) packets) where
-  further : stands_over packets (from + 1) ≡ true →
-      IsOverNoMedia packets (from + 1) (reach_from fuel (from + 1) packets) → (m : ℕ) → from < m →
-      m ≤ reach_from fuel (from + 1) packets → (from + 1 < m) ⊎ (m ≤ from + 1) →
-      IsSomeAnd (at m packets) (λ content. is_no_media content ≡ true)
-  further is rest m above upto (inl later) = rest m later upto
-  further is rest m above upto (inr here) =
-      let same : m ≡ from + 1 = omega (arith, above, here) in
-      over-to (at m packets) (ap (stands_over packets) same ∙ is)
+      further : stands_over packets (from + 1) ≡ true →
+          IsOverNoMedia packets (from + 1) (reach_from fuel (from + 1) packets) → (m : ℕ) → from < m →
+          m ≤ reach_from fuel (from + 1) packets → (from + 1 < m) ⊎ (m ≤ from + 1) →
+          IsSomeAnd (at m packets) (λ content. is_no_media content ≡ true)
+      further is rest m above upto (inl later) = rest m later upto
+      further is rest m above upto (inr here) =
+          let same : m ≡ from + 1 = omega (arith, above, here) in
+          over-to (at m packets) (ap (stands_over packets) same ∙ is)
 
-  by_step : (b : Bool) → stands_over packets (from + 1) ≡ b →
-      IsOverNoMedia packets (from + 1) (reach_from fuel (from + 1) packets) →
-      IsOverNoMedia packets from (stepped b (reach_from fuel (from + 1) packets) from)
-  by_step true is rest m above upto = further is rest m above upto (cases_lt (from + 1) m)
-  by_step false is rest m above upto = absurd (omega (arith, above, upto))
+      by_step : (b : Bool) → stands_over packets (from + 1) ≡ b →
+          IsOverNoMedia packets (from + 1) (reach_from fuel (from + 1) packets) →
+          IsOverNoMedia packets from (stepped b (reach_from fuel (from + 1) packets) from)
+      by_step true is rest m above upto = further is rest m above upto (cases_lt (from + 1) m)
+      by_step false is rest m above upto = absurd (omega (arith, above, upto))
 
 -- the steps are used up, or the next number is no such number
 reach_from-ends : (fuel from : ℕ) (packets : Packets) →
@@ -80,14 +80,14 @@ reach_from-ends : (fuel from : ℕ) (packets : Packets) →
 reach_from-ends zero from packets = inl (omega arith)
 reach_from-ends (suc fuel) from packets =
     by_step (stands_over packets (from + 1)) refl (reach_from-ends fuel (from + 1) packets) where
-  by_step : (b : Bool) → stands_over packets (from + 1) ≡ b →
-      (reach_from fuel (from + 1) packets ≡ from + 1 + fuel)
-      ⊎ (stands_over packets (reach_from fuel (from + 1) packets + 1) ≡ false)
-      → (stepped b (reach_from fuel (from + 1) packets) from ≡ from + suc fuel)
-      ⊎ (stands_over packets (stepped b (reach_from fuel (from + 1) packets) from + 1) ≡ false)
-  by_step true is (inl all) = inl (omega (arith, all))
-  by_step true is (inr end) = inr end
-  by_step false is end = inr is
+      by_step : (b : Bool) → stands_over packets (from + 1) ≡ b →
+          (reach_from fuel (from + 1) packets ≡ from + 1 + fuel)
+          ⊎ (stands_over packets (reach_from fuel (from + 1) packets + 1) ≡ false)
+          → (stepped b (reach_from fuel (from + 1) packets) from ≡ from + suc fuel)
+          ⊎ (stands_over packets (stepped b (reach_from fuel (from + 1) packets) from + 1) ≡ false)
+      by_step true is (inl all) = inl (omega (arith, all))
+      by_step true is (inr end) = inr end
+      by_step false is end = inr is
 
 -- what is available lies in the window
 abbrev IsInside : Contents Content → Type 0
@@ -113,12 +113,15 @@ reach_from-closed window inside from = by_end (reach_from-ends WINDOW from windo
   by_next all false is = refl
   by_next all true is =
       let first : IsInWindow window.newest (from + 1) =
-          stands (from + 1) (over-from (at (from + 1) window.packets)
-          (reach_from-over WINDOW from window.packets (from + 1) (omega arith) (omega (arith, all)))) in
+      stands (from + 1) (over-from (at (from + 1) window.packets)
+      (reach_from-over WINDOW from window.packets (from + 1) (omega arith) (omega (arith, all)))) in
       let last : IsInWindow window.newest (reach_from WINDOW from window.packets + 1) =
-          stands (reach_from WINDOW from window.packets + 1) is in
-      absurd (omega (arith, all,
-      apart-less window.newest (from + 1) (reach_from WINDOW from window.packets + 1) first last))
+      stands (reach_from WINDOW from window.packets + 1) is in
+      absurd (omega (
+        arith,
+        all,
+        apart-less window.newest (from + 1) (reach_from WINDOW from window.packets + 1) first last,
+      ))
 
   by_end : (reach_from WINDOW from window.packets ≡ from + WINDOW)
       ⊎ (stands_over window.packets (reach_from WINDOW from window.packets + 1) ≡ false) →
@@ -137,7 +140,7 @@ closed_after window inside None last =
     (reach_from-from WINDOW last window.packets, reach_from-closed window inside last)
 closed_after window inside (Some front) last =
     let further : max front last ≤ reach_from WINDOW (max front last) window.packets =
-        reach_from-from WINDOW (max front last) window.packets in
+    reach_from-from WINDOW (max front last) window.packets in
     (omega arith, reach_from-closed window inside (max front last))
 
 -- the same, if a frame was pulled
@@ -271,7 +274,7 @@ front-stays (Some front) None packets n none passed = absurd (none-some front (s
 front-stays (Some front) (Some last) packets n none passed =
     let upto : n ≤ front = leb-true n front passed in
     let further : max front last ≤ reach_from WINDOW (max front last) packets =
-        reach_from-from WINDOW (max front last) packets in
+    reach_from-from WINDOW (max front last) packets in
     le-leb n (reach_from WINDOW (max front last) packets) (omega arith)
 
 -- before the first frame is pulled there is no front

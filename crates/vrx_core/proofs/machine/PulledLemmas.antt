@@ -78,7 +78,7 @@ module _ (law : RunsAre) (codec : Meaning) where
       (run.first ≤ run.last) × IfSome (last_pulled s.pulled) (λ last. last < run.first)
   given-rises s ends run is =
       let there : Contains s.standing run × (stands (last_pulled s.pulled) run ≡ true) =
-          answer-from (last_pulled s.pulled) s.front s.standing run is in
+      answer-from (last_pulled s.pulled) s.front s.standing run is in
       (ends run there.0, stands-beyond (last_pulled s.pulled) run there.1)
 
 -- a datagram leaves the frames pulled
@@ -116,12 +116,12 @@ rise-beyond : (frames : List Run) (n : ℕ) → Rise frames → IfSome (last_pul
 rise-beyond [] n rise beyond = tt
 rise-beyond (frame ∷ before) n rise beyond =
     (beyond, rise-beyond before n rise.2 (further (last_pulled before) rise.1)) where
-  upto : frame.first < n
-  upto = let within : frame.first ≤ frame.last = rise.0 in omega arith
+      upto : frame.first < n
+      upto = let within : frame.first ≤ frame.last = rise.0 in omega arith
 
-  further : (o : Option ℕ) → IfSome o (λ last. last < frame.first) → IfSome o (λ last. last < n)
-  further None less = tt
-  further (Some last) less = omega (arith, less, upto)
+      further : (o : Option ℕ) → IfSome o (λ last. last < frame.first) → IfSome o (λ last. last < n)
+      further None less = tt
+      further (Some last) less = omega (arith, less, upto)
 
 -- what lies beyond the last frame pulled lies beyond every frame pulled
 pub beyond-every : RunsAre → (settings : Settings) (codec : Meaning) (h : List Event) (n : ℕ) →

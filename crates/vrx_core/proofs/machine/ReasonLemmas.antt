@@ -209,23 +209,25 @@ pub answers_mean : (law : ReasonsHolds) (settings : Settings) (codec : Meaning) 
     (given ≡ what) ↔ MeansAnswer settings codec window octets what
 answers_mean law settings codec window octets octet from given is what =
     (λ same. to (verdict settings codec window octets) refl what (sym is ∙ same), λ m. is ∙ back what m) where
-  holds : (result : Result (ℕ × Content) NotTaken) →
-      (verdict settings codec window octets ≡ result) ↔ Means settings codec window octets result
-  holds result = law settings codec window octets octet from result
+      holds : (result : Result (ℕ × Content) NotTaken) →
+          (verdict settings codec window octets ≡ result) ↔ Means settings codec window octets result
+      holds result = law settings codec window octets octet from result
 
-  to : (result : Result (ℕ × Content) NotTaken) → verdict settings codec window octets ≡ result → (w : What) →
-      what_of result ≡ w → MeansAnswer settings codec window octets w
-  to (Ok (n, Media text)) v w same =
-      subst (MeansAnswer settings codec window octets) same (text, (holds (Ok (n, Media text))).0 v)
-  to (Ok (n, Fec payload)) v w same = absurd (((holds (Ok (n, Fec payload))).0 v).0.brought.brings)
-  to (Ok (n, Empty)) v w same = subst (MeansAnswer settings codec window octets) same ((holds (Ok (n, Empty))).0 v)
-  to (Err Control) v w same = subst (MeansAnswer settings codec window octets) same ((holds (Err Control)).0 v)
-  to (Err (Refused reason)) v w same =
-      subst (MeansAnswer settings codec window octets) same ((holds (Err (Refused reason))).0 v)
+      to : (result : Result (ℕ × Content) NotTaken) → verdict settings codec window octets ≡ result → (w : What) →
+          what_of result ≡ w → MeansAnswer settings codec window octets w
+      to (Ok (n, Media text)) v w same =
+          subst (MeansAnswer settings codec window octets) same (text, (holds (Ok (n, Media text))).0 v)
+      to (Ok (n, Fec payload)) v w same = absurd (((holds (Ok (n, Fec payload))).0 v).0.brought.brings)
+      to (Ok (n, Empty)) v w same =
+          subst (MeansAnswer settings codec window octets) same ((holds (Ok (n, Empty))).0 v)
+      to (Err Control) v w same = subst (MeansAnswer settings codec window octets) same ((holds (Err Control)).0 v)
+      to (Err (Refused reason)) v w same =
+          subst (MeansAnswer settings codec window octets) same ((holds (Err (Refused reason))).0 v)
 
-  back : (w : What) → MeansAnswer settings codec window octets w → what_of (verdict settings codec window octets) ≡ w
-  back (whats.Media n) (text, m) = ap what_of ((holds (Ok (n, Media text))).1 m)
-  back (whats.Empty n) m = ap what_of ((holds (Ok (n, Empty))).1 m)
-  back whats.Rtcp m = ap what_of ((holds (Err Control)).1 m)
-  back (whats.Dropped reason) m = ap what_of ((holds (Err (Refused reason))).1 m)
-  back (whats.Fec n) m = absurd m
+      back : (w : What) → MeansAnswer settings codec window octets w →
+          what_of (verdict settings codec window octets) ≡ w
+      back (whats.Media n) (text, m) = ap what_of ((holds (Ok (n, Media text))).1 m)
+      back (whats.Empty n) m = ap what_of ((holds (Ok (n, Empty))).1 m)
+      back whats.Rtcp m = ap what_of ((holds (Err Control)).1 m)
+      back (whats.Dropped reason) m = ap what_of ((holds (Err (Refused reason))).1 m)
+      back (whats.Fec n) m = absurd m

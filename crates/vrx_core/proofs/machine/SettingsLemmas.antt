@@ -54,8 +54,12 @@ equal-to (member ∷ members) h = elim (or_cases (holds members member) (has_equ
       record { earlier = 0; later = suc k.0; apart = omega arith; within = omega (arith, k.1); same = sym k.2 }
   | inr more ↦ let e = equal-to members more in
       record {
-      earlier = suc e.earlier; later = suc e.later; apart = omega (arith, e.apart); within =
-      omega (arith, e.within); same = e.same }
+        earlier = suc e.earlier;
+        later = suc e.later;
+        apart = omega (arith, e.apart);
+        within = omega (arith, e.within);
+        same = e.same;
+      }
 ]
 
 equal-at : (members : List ℕ) (i j : ℕ) → i < j → j < length members → slice_index members i ≡ slice_index members j →
@@ -88,8 +92,11 @@ red_missing settings = (
 
 bad_interval-to : (interval : ℕ) → is_bad_interval interval ≡ true → (interval ≡ 0) ⊎ (60000 < interval)
 bad_interval-to interval h =
-    elim (or_cases _ _ h) [ inl none ↦ inl (eqb-true interval 0 none) | inr above ↦ inr
-    (ltb-true 60000 interval above) ]
+    elim (or_cases _ _ h) [
+      | inl none ↦ inl (eqb-true interval 0 none)
+      | inr above ↦ inr
+          (ltb-true 60000 interval above)
+    ]
 
 bad_interval-from : (interval : ℕ) → (interval ≡ 0) ⊎ (60000 < interval) → is_bad_interval interval ≡ true
 bad_interval-from interval (inl none) = or_left _ _ (eq-eqb interval 0 none)
@@ -185,8 +192,11 @@ module _ (settings : Settings) where
       (red_missing settings))))
 
   pub fault-red_missing : (fault_of settings ≡ Some RedMissing) ↔ IsFault settings RedMissing
-  fault-red_missing = (λ h. let x = nested-red_missing.0 h in
-      (x.0, x.1.0, x.1.1.0, x.1.1.1), λ y. nested-red_missing.1 (y.0, (y.1, (y.2, y.3))))
+  fault-red_missing = (
+    λ h. let x = nested-red_missing.0 h in
+        (x.0, x.1.0, x.1.1.0, x.1.1.1),
+    λ y. nested-red_missing.1 (y.0, (y.1, (y.2, y.3))),
+  )
 
   nested-bad_interval : (fault_of settings ≡ Some BadInterval)
       ↔ ((¬ Says settings BadType)
@@ -202,8 +212,11 @@ module _ (settings : Settings) where
       (bad_interval-to settings.interval, bad_interval-from settings.interval)))))
 
   pub fault-bad_interval : (fault_of settings ≡ Some BadInterval) ↔ IsFault settings BadInterval
-  fault-bad_interval = (λ h. let x = nested-bad_interval.0 h in
-      (x.0, x.1.0, x.1.1.0, x.1.1.1.0, x.1.1.1.1), λ y. nested-bad_interval.1 (y.0, (y.1, (y.2, (y.3, y.4)))))
+  fault-bad_interval = (
+    λ h. let x = nested-bad_interval.0 h in
+        (x.0, x.1.0, x.1.1.0, x.1.1.1.0, x.1.1.1.1),
+    λ y. nested-bad_interval.1 (y.0, (y.1, (y.2, (y.3, y.4)))),
+  )
 
   nested-later : (fault_of settings ≡ Some Later)
       ↔ ((¬ Says settings BadType)
@@ -220,9 +233,12 @@ module _ (settings : Settings) where
       (hit (is_later settings) Later None (λ e. none-some Later e) (or_cases _ _, later-from settings))))))
 
   pub fault-later : (fault_of settings ≡ Some Later) ↔ IsFault settings Later
-  fault-later = (λ h. let x = nested-later.0 h in
-      (x.0, x.1.0, x.1.1.0, x.1.1.1.0, x.1.1.1.1.0, x.1.1.1.1.1), λ y.
-      nested-later.1 (y.0, (y.1, (y.2, (y.3, (y.4, y.5))))))
+  fault-later = (
+    λ h. let x = nested-later.0 h in
+        (x.0, x.1.0, x.1.1.0, x.1.1.1.0, x.1.1.1.1.0, x.1.1.1.1.1),
+    λ y.
+        nested-later.1 (y.0, (y.1, (y.2, (y.3, (y.4, y.5))))),
+  )
 
 -- what an Err holds, else another fault
 err_or : {T : Type 0} → NewFault → Result T NewFault → NewFault

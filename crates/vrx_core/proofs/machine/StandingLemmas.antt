@@ -87,9 +87,9 @@ module _ (are : RunsAre) (codec : Meaning) (past : List Snapshot) (settled : IsS
       let s : Snapshot = latest past in
       let starts = is_start s.front (began_after_end (times past)) in
       let both : Contains (runs_by codec no_layers starts s.window.packets) run
-          × (stands (last_pulled s.pulled) run ≡ true) =
-          filter-from (stands (last_pulled s.pulled)) (runs_by codec no_layers starts s.window.packets) run
-          (subst (λ rs. Contains rs run) settled there) in
+      × (stands (last_pulled s.pulled) run ≡ true) =
+      filter-from (stands (last_pulled s.pulled)) (runs_by codec no_layers starts s.window.packets) run
+      (subst (λ rs. Contains rs run) settled there) in
       ((are codec no_layers starts s.window.packets run).0 both.0, both.1)
 
   -- and back
@@ -114,7 +114,7 @@ pub given-rises : RunsAre → (codec : Meaning) (past : List Snapshot) (run : Ru
 given-rises are codec past run settled is =
     let s : Snapshot = latest past in
     let given : Contains s.standing run × (is_deliverable (last_pulled s.pulled) s.front run ≡ true) =
-        answer-given (last_pulled s.pulled) s.front s.standing run is in
+    answer-given (last_pulled s.pulled) s.front s.standing run is in
     let stood : IsRunNow codec past run × (stands (last_pulled s.pulled) run ≡ true) =
-        standing-from are codec past settled run given.0 in
+    standing-from are codec past settled run given.0 in
     (stood.0.not_empty, stands-beyond (last_pulled s.pulled) run stood.1)

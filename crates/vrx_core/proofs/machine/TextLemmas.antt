@@ -25,8 +25,14 @@ reading-ok (Err fault) packet h = absurd (none-some packet h)
 -- without its padding a packet still fits
 pub fits-without : (p : Packet) → Fits p → Fits (without_padding p)
 fits-without p fits = record {
-    pt = fits.pt; seq = fits.seq; ts = fits.ts; ssrc = fits.ssrc; csrc = fits.csrc; extension =
-    fits.extension; padding = omega arith }
+  pt = fits.pt;
+  seq = fits.seq;
+  ts = fits.ts;
+  ssrc = fits.ssrc;
+  csrc = fits.csrc;
+  extension = fits.extension;
+  padding = omega arith;
+}
 
 -- so its text is a packet
 pub text-packet : (p : Packet) → Fits p → IsPacket (packet_text p) (without_padding p)
@@ -47,27 +53,27 @@ longer : (header header' csrc extension payload padding : List ℕ) → length h
 longer header header' csrc extension payload padding same =
     let a : length (header ++ csrc) ≡ length header + length csrc = length-append header csrc in
     let b : length (header ++ csrc ++ extension) ≡ length (header ++ csrc) + length extension =
-        length-append (header ++ csrc) extension in
+    length-append (header ++ csrc) extension in
     let c : length (header ++ csrc ++ extension ++ payload) ≡ length (header ++ csrc ++ extension) + length payload =
-        length-append (header ++ csrc ++ extension) payload in
+    length-append (header ++ csrc ++ extension) payload in
     let d : length (header ++ csrc ++ extension ++ payload ++ []) ≡ length
-        (header ++ csrc ++ extension ++ payload) + 0 = length-append (header ++ csrc ++ extension ++ payload) [] in
+    (header ++ csrc ++ extension ++ payload) + 0 = length-append (header ++ csrc ++ extension ++ payload) [] in
     let a' : length (header' ++ csrc) ≡ length header' + length csrc = length-append header' csrc in
     let b' : length (header' ++ csrc ++ extension) ≡ length (header' ++ csrc) + length extension =
-        length-append (header' ++ csrc) extension in
+    length-append (header' ++ csrc) extension in
     let c' : length (header' ++ csrc ++ extension ++ payload) ≡ length
-        (header' ++ csrc ++ extension) + length payload = length-append (header' ++ csrc ++ extension) payload in
+    (header' ++ csrc ++ extension) + length payload = length-append (header' ++ csrc ++ extension) payload in
     let d' : length (header' ++ csrc ++ extension ++ payload ++ padding) ≡ length
-        (header' ++ csrc ++ extension ++ payload) + length padding =
-        length-append (header' ++ csrc ++ extension ++ payload) padding in
+    (header' ++ csrc ++ extension ++ payload) + length padding =
+    length-append (header' ++ csrc ++ extension ++ payload) padding in
     omega arith
 
 -- the text isn't longer than the octets
 pub text-upto : (octets : List ℕ) (p : Packet) → IsPacket octets p → length (packet_text p) ≤ length octets
 text-upto octets p is =
     let more : length (packet_text p) ≤ length (octets_with is.filler p) =
-        longer (fixed_header (without_padding p)) (fixed_header p) p.csrc (extension_octets p.extension) p.payload
-        (padding_octets is.filler p.padding) refl in
+    longer (fixed_header (without_padding p)) (fixed_header p) p.csrc (extension_octets p.extension) p.payload
+    (padding_octets is.filler p.padding) refl in
     let same : length octets ≡ length (octets_with is.filler p) = ap length is.spelled in
     omega arith
 
@@ -98,10 +104,10 @@ pub text-octets : (octets : List ℕ) (p : Packet) → IsPacket octets p → Are
 text-octets octets p is below =
     let whole : AreOctets (octets_with is.filler p) = subst AreOctets is.spelled below in
     let body : AreOctets (fixed_header p ++ p.csrc ++ extension_octets p.extension ++ p.payload) =
-        first-octets (fixed_header p ++ p.csrc ++ extension_octets p.extension ++ p.payload)
-        (padding_octets is.filler p.padding) whole in
+    first-octets (fixed_header p ++ p.csrc ++ extension_octets p.extension ++ p.payload)
+    (padding_octets is.filler p.padding) whole in
     let rest : List ℕ = marker_and_type p.marker p.pt ∷ to_be_bytes w16 p.seq ++ to_be_bytes w32 p.ts
-        ++ to_be_bytes w32 p.ssrc ++ p.csrc ++ extension_octets p.extension ++ p.payload in
+    ++ to_be_bytes w32 p.ssrc ++ p.csrc ++ extension_octets p.extension ++ p.payload in
     let first : ℕ = first_octet (without_padding p) in
     All-append (λ octet. octet < 256) (first ∷ rest) []
     (All-cons (λ octet. octet < 256) first rest (first-below (is_some p.extension) (length p.csrc) is.fits.csrc.fit)

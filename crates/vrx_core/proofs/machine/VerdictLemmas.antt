@@ -62,12 +62,15 @@ module _ (settings : Settings) (codec : Meaning) (window : Contents Content) (oc
   numbered_taken packet is None number n content e = absurd (cc)
   numbered_taken packet is (Some m) number n content e =
       let placed : (would_of window m ≡ placings.Fresh) × (◌≡◌ {A = ℕ × Content} (m, packet.content) (n, content)) =
-          placed-fresh (would_of window m) (m, packet.content) (n, content) e in
+      placed-fresh (would_of window m) (m, packet.content) (n, content) e in
       let same : m ≡ n = ap (λ (x : ℕ × Content). x.0) placed.1 in
       record {
-          packet = packet; is = is; number = number ∙ ap Some same; content_is =
-          ap (λ (x : ℕ × Content). x.1) placed.1; fresh =
-          subst (λ (k : ℕ). would_of window k ≡ placings.Fresh) same placed.0 }
+        packet = packet;
+        is = is;
+        number = number ∙ ap Some same;
+        content_is = ap (λ (x : ℕ × Content). x.1) placed.1;
+        fresh = subst (λ (k : ℕ). would_of window k ≡ placings.Fresh) same placed.0;
+      }
 
   table_taken : (r : Result Original NotTaken) → original settings codec octets ≡ r → (n : ℕ) (content : Content) →
       table r ≡ Ok (n, content) → IsTaken settings codec window octets n content
@@ -101,14 +104,14 @@ pub fresh-is : (window : Contents Content) (n : ℕ) → would_of window n ≡ p
 fresh-is window n fresh =
     by_tests (is_too_old window.newest n) (is_dead n window.dead)
     (is_available n window.packets) refl refl refl fresh where
-  by_tests : (old dead there : Bool) → is_too_old window.newest n ≡ old → is_dead n window.dead ≡ dead →
-      is_available n window.packets ≡ there
-      → (if old then placings.TooOld else if dead then placings.Dead else if there then placings.Repeat
-      else placings.Fresh) ≡ placings.Fresh → IsFresh window n
-  by_tests true dead there is_old dies stands e = absurd (cc)
-  by_tests false true there is_old dies stands e = absurd (cc)
-  by_tests false false true is_old dies stands e = absurd (cc)
-  by_tests false false false is_old dies stands e = record { young = is_old; alive = dies; free = stands }
+      by_tests : (old dead there : Bool) → is_too_old window.newest n ≡ old → is_dead n window.dead ≡ dead →
+          is_available n window.packets ≡ there
+          → (if old then placings.TooOld else if dead then placings.Dead else if there then placings.Repeat
+          else placings.Fresh) ≡ placings.Fresh → IsFresh window n
+      by_tests true dead there is_old dies stands e = absurd (cc)
+      by_tests false true there is_old dies stands e = absurd (cc)
+      by_tests false false true is_old dies stands e = absurd (cc)
+      by_tests false false false is_old dies stands e = record { young = is_old; alive = dies; free = stands }
 
 -- and back
 pub fresh-from : (window : Contents Content) (n : ℕ) → IsFresh window n → would_of window n ≡ placings.Fresh

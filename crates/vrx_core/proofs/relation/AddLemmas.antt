@@ -146,8 +146,11 @@ can-add newest front last_pulled [] frames ups apart each = tt
 can-add newest front last_pulled (a ∷ more) frames ups apart each =
     let here = each a (Contains-head a more) in (
       record {
-          inside = here.0; beyond = here.1; later = here.2; fresh =
-          none-stands a.first frames (fresh-all a more frames apart) },
+        inside = here.0;
+        beyond = here.1;
+        later = here.2;
+        fresh = none-stands a.first frames (fresh-all a more frames apart);
+      },
       can-add newest front last_pulled more (with_run a frames) ups.1 (apart-rest a more frames ups apart)
-      (λ b c. each b (Contains-tail a more b c)),
+          (λ b c. each b (Contains-tail a more b c)),
     )

@@ -51,32 +51,33 @@ pub can-complete : (codec : Meaning) (before : Assembly) (window : Contents Held
     window ≡ after_placing n held before.window → CanComplete codec before window n
 can-complete codec before window n held kept inside fresh sound plain placed_is =
     subst (λ (w : Contents Held). CanComplete codec before w n) (sym placed_is) (record {
-  sound = λ m other is. (taken-after_placing codec before.window n held kept.taken sound plain m other is).0;
-  held = ap is_some (at_put-here n held
-      (where_key nat_cmp (in_window (newest_with before.window.newest n)) before.window.packets));
-  fresh = told-available codec before.known.arrivals (packets_of before) n kept.arrivals
-      ∙ available-contents n before.window.packets ∙ missing;
-  newest = subst (λ (o : Option ℕ). IsUpTo o (Some (newest_with before.window.newest n))) (sym kept.newest)
-      (upto before.window.newest);
-  passed = kept.passed;
-  same = λ m shape is in_new.
-      ap (option_map (shape_of codec)) (after_placing-stays before.window n held m missing (there m shape is) in_new)
-      ∙ sym (was m) ∙ is;
-}) where
-  missing : is_available n before.window.packets ≡ false
-  missing = (fresh-parts before.window n fresh).1
+      sound = λ m other is. (taken-after_placing codec before.window n held kept.taken sound plain m other is).0;
+      held = ap is_some (at_put-here n held
+          (where_key nat_cmp (in_window (newest_with before.window.newest n)) before.window.packets));
+      fresh = told-available codec before.known.arrivals (packets_of before) n kept.arrivals
+          ∙ available-contents n before.window.packets ∙ missing;
+      newest = subst (λ (o : Option ℕ). IsUpTo o (Some (newest_with before.window.newest n))) (sym kept.newest)
+          (upto before.window.newest);
+      passed = kept.passed;
+      same = λ m shape is in_new.
+          ap (option_map (shape_of codec))
+          (after_placing-stays before.window n held m missing (there m shape is) in_new)
+          ∙ sym (was m) ∙ is;
+    }) where
+      missing : is_available n before.window.packets ≡ false
+      missing = (fresh-parts before.window n fresh).1
 
-  upto : (o : Option ℕ) → IsUpTo o (Some (newest_with o n))
-  upto None = tt
-  upto (Some m) = omega arith
+      upto : (o : Option ℕ) → IsUpTo o (Some (newest_with o n))
+      upto None = tt
+      upto (Some m) = omega arith
 
-  was : (m : ℕ) → at m before.known.arrivals ≡ option_map (shape_of codec) (at m (packets_of before))
-  was m = ap (at m) kept.arrivals ∙ at_map (shape_of codec) m (packets_of before)
+      was : (m : ℕ) → at m before.known.arrivals ≡ option_map (shape_of codec) (at m (packets_of before))
+      was m = ap (at m) kept.arrivals ∙ at_map (shape_of codec) m (packets_of before)
 
-  there : (m : ℕ) (shape : Shape) → at m before.known.arrivals ≡ Some shape →
-      is_available m (packets_of before) ≡ true
-  there m shape is =
-      sym (told-available codec before.known.arrivals (packets_of before) m kept.arrivals) ∙ ap is_some is
+      there : (m : ℕ) (shape : Shape) → at m before.known.arrivals ≡ Some shape →
+          is_available m (packets_of before) ≡ true
+      there m shape is =
+          sym (told-available codec before.known.arrivals (packets_of before) m kept.arrivals) ∙ ap is_some is
 
 -- a packet without layers has no place
 plain-place : (codec : Meaning) (packets : List (ℕ × Held)) → AreTaken codec packets → (n : ℕ) →
@@ -104,20 +105,21 @@ pub next-beyond : (codec : Meaning) (parts : Assembly) → IsKept codec parts �
 next-beyond codec parts kept =
     All-from_recursion (λ run. is_passed parts.front run.first ≡ false) parts.frames
     (all-of (λ run. is_passed parts.front run.first ≡ false) parts.frames beyond) where
-  not_passed : (o : Option ℕ) (run : Run) → stands_run o run ≡ true → is_passed o run.first ≡ false
-  not_passed None run s = refl
-  not_passed (Some front) run s = not-true (nat_le run.first front) s
+      not_passed : (o : Option ℕ) (run : Run) → stands_run o run ≡ true → is_passed o run.first ≡ false
+      not_passed None run s = refl
+      not_passed (Some front) run s = not-true (nat_le run.first front) s
 
-  beyond : (told : RunSummary) → Contains parts.frames told → is_passed parts.front told.first ≡ false
-  beyond told there =
-      let r : (run : Run) × Contains (standing_runs codec no_layers parts.front parts.known (packets_of parts)) run
+      beyond : (told : RunSummary) → Contains parts.frames told → is_passed parts.front told.first ≡ false
+      beyond told there =
+          let r : (run : Run) × Contains
+          (standing_runs codec no_layers parts.front parts.known (packets_of parts)) run
           × (summary_of run ≡ told) =
           map-from summary_of (standing_runs codec no_layers parts.front parts.known (packets_of parts)) told
           (subst (λ frames. Contains frames told) kept.frames there) in
-      let s = filter-from (stands_run parts.front)
+          let s = filter-from (stands_run parts.front)
           (runs_by codec no_layers (is_start parts.front (is_among parts.known.began))
           (known_packets parts.known (packets_of parts))) r.0 r.1 in
-      ap (λ (t : RunSummary). is_passed parts.front t.first) (sym r.2) ∙ not_passed parts.front r.0 s.1
+          ap (λ (t : RunSummary). is_passed parts.front t.first) (sym r.2) ∙ not_passed parts.front r.0 s.1
 
 -- the run that is next stands
 pub next-among : (front : Option ℕ) (frames : List RunSummary) (run : RunSummary) → next_of front frames ≡ Some run →
@@ -140,17 +142,20 @@ module _ (are : RunsAre) where
       Contains parts.frames told → IsTold codec parts told
   frame-is codec parts told kept there =
       let r : (run : Run) × Contains
-          (standing-by codec no_layers parts.front (is_start parts.front (is_among parts.known.began))
-          (packets_of parts)) run × (summary_of run ≡ told) =
+      (standing-by codec no_layers parts.front (is_start parts.front (is_among parts.known.began))
+      (packets_of parts)) run × (summary_of run ≡ told) =
       map-from summary_of (standing-by codec no_layers parts.front (is_start parts.front (is_among parts.known.began))
       (packets_of parts)) told
       (subst (λ frames. Contains frames told)
       (kept.frames ∙ ap (map summary_of)
       (standing_runs-whole codec parts.front parts.known (packets_of parts) kept.arrivals)) there) in
       record {
-          run = r.0; told_is = r.2; is_run =
-          (standing-from are codec no_layers parts.front (is_start parts.front (is_among parts.known.began))
-          (packets_of parts) r.0 r.1).0 }
+        run = r.0;
+        told_is = r.2;
+        is_run =
+            (standing-from are codec no_layers parts.front (is_start parts.front (is_among parts.known.began))
+            (packets_of parts) r.0 r.1).0;
+      }
 
   -- the answers can be added, one after the other, once the runs below the window are dropped
   answers-then : RunsRise → (codec : Meaning) (before : Assembly) (n : ℕ) (held : Held) (answers : List RunSummary)
@@ -202,24 +207,26 @@ module _ (are : RunsAre) where
             × (is_passed before.front a.first ≡ false) × IfSome before.last_pulled (λ last. last < a.first)
         each a there =
             let r : (run : Run) × Contains
-                (standing_runs codec no_layers before.front
-                (then codec before.window n held before.front before.known) (placed_now before.window n held)) run
-                × (summary_of run ≡ a) = completes.only a there in
+            (standing_runs codec no_layers before.front
+            (then codec before.window n held before.front before.known) (placed_now before.window n held)) run
+            × (summary_of run ≡ a) = completes.only a there in
             let s = standing-from are codec no_layers before.front
-                (is_start before.front (is_among (then codec before.window n held before.front before.known).began))
-                (placed_now before.window n held) r.0
+            (is_start before.front (is_among (then codec before.window n held before.front before.known).began))
+            (placed_now before.window n held) r.0
             (subst (λ runs. Contains runs r.0)
             (standing_runs-whole codec before.front (then codec before.window n held before.front before.known)
             (placed_now before.window n held)
             (told-then codec before.window n held before.front before.known kept.arrivals)) r.1) in
             let first_there : is_available r.0.first (placed_now before.window n held) ≡ true =
-                run-available codec no_layers
-                (is_start before.front (is_among (then codec before.window n held before.front before.known).began))
-                (placed_now before.window n held) r.0 r.0.first s.0 (omega arith) (s.0).not_empty in
+            run-available codec no_layers
+            (is_start before.front (is_among (then codec before.window n held before.front before.known).began))
+            (placed_now before.window n held) r.0 r.0.first s.0 (omega arith) (s.0).not_empty in
             subst (λ (t : RunSummary). (is_inside (after_placing n held before.window).newest t.first ≡ true)
-            × (is_passed before.front t.first ≡ false) × IfSome before.last_pulled (λ last. last < t.first)) r.2
-            (now-inside before.window n held inside young missing r.0.first first_there, beyond before.front r.0 s.1,
-            later before.last_pulled before.front r.0 kept.front.ahead s.1)
+            × (is_passed before.front t.first ≡ false) × IfSome before.last_pulled (λ last. last < t.first)) r.2 (
+              now-inside before.window n held inside young missing r.0.first first_there,
+              beyond before.front r.0 s.1,
+              later before.last_pulled before.front r.0 kept.front.ahead s.1,
+            )
 
   -- the same, by what the window and what is known are then
   pub answers-added : RunsRise →

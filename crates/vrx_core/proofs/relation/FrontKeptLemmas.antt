@@ -65,12 +65,12 @@ module _ (packets : Packets) (newest : Option ℕ)
       IsUpTo after newest
   goes-within from after g low =
       subst (λ (o : Option ℕ). IsUpTo o newest) (sym g.front_is) (elim (cases_lt from g.front) [
-    | inl less ↦ available-upto g.front (over-available g.front packets (g.over g.front less (omega arith)))
-    | inr upto ↦ by newest low upto
-  ]) where
-    by : (o : Option ℕ) → IsSomeAnd o (λ k. from ≤ k) → g.front ≤ from → IsSomeAnd o (λ k. g.front ≤ k)
-    by None h upto = absurd h
-    by (Some k) h upto = omega (arith, h, upto)
+        | inl less ↦ available-upto g.front (over-available g.front packets (g.over g.front less (omega arith)))
+        | inr upto ↦ by newest low upto
+      ]) where
+        by : (o : Option ℕ) → IsSomeAnd o (λ k. from ≤ k) → g.front ≤ from → IsSomeAnd o (λ k. g.front ≤ k)
+        by None h upto = absurd h
+        by (Some k) h upto = omega (arith, h, upto)
 
   -- a number up to the front, by the front itself
   goes-some : (from : ℕ) (after : Option ℕ) (n : ℕ) → (g : GoesOn packets from after) →

@@ -99,11 +99,11 @@ module _ (window : Contents Content) (k : ℕ) (content : Content) where
     | inl same ↦ subst (λ m. m ≤ newest_with window.newest k) (sym same) (newest-number window.newest k)
     | inr apart ↦
         let x : (c : Content) × (at n (after_placing k content window).packets ≡ Some c) =
-            some-of (at n (after_placing k content window).packets) there in
+        some-of (at n (after_placing k content window).packets) there in
         let p : (in_window (newest_with window.newest k) n ≡ true) × (at n window.packets ≡ Some x.0) =
-            at_where-from (in_window (newest_with window.newest k)) n window.packets x.0
-            (sym (at_put-other n k content
-            (where_key nat_cmp (in_window (newest_with window.newest k)) window.packets) apart) ∙ x.1) in
+        at_where-from (in_window (newest_with window.newest k)) n window.packets x.0
+        (sym (at_put-other n k content
+        (where_key nat_cmp (in_window (newest_with window.newest k)) window.packets) apart) ∙ x.1) in
         below window.newest (upto n (ap is_some p.1))
   ] where
     below : (o : Option ℕ) → IsSomeAnd o (λ m. n ≤ m) → n ≤ newest_with o k
@@ -140,7 +140,7 @@ module _ (window : Contents Content) (k : ℕ) (content : Content) where
     older (inl far) = ltb-false (newest_with window.newest k) (n + WINDOW) far
     older (inr above) = let up : n ≤ newest_with window.newest k = below window.newest (upto n there) in
         let over : newest_with window.newest k < n =
-            leb-false n (newest_with window.newest k) above in absurd (omega arith)
+        leb-false n (newest_with window.newest k) above in absurd (omega arith)
 
   -- so it holds of the window in which a packet was placed
   after_placing-window : (past : List Packets) → Remembers window past →
@@ -177,7 +177,9 @@ pub remembers : (settings : Settings) (codec : Meaning) (h : List Event) →
 unfolding snapshots
 remembers settings codec [] =
     record {
-    upto = λ n there. absurd (true≢false (sym there)); gone = ((λ n there. absurd (true≢false (sym there))), tt) }
+      upto = λ n there. absurd (true≢false (sym there));
+      gone = ((λ n there. absurd (true≢false (sym there))), tt);
+    }
 remembers settings codec (Datagram moment octets ∷ h) =
     remembers-datagram codec (snapshots settings codec h) moment
     (verdict settings codec (latest (snapshots settings codec h)).window octets) (remembers settings codec h)
@@ -193,17 +195,18 @@ pub never-began : (window : Contents Content) (past : List Packets) (n : ℕ) �
     is_available n window.packets ≡ false → is_too_old window.newest n ≡ false → began_after_end past n ≡ false
 never-began window past n r missing young =
     none past (all-of (λ packets. is_available n packets ≡ false) past each) where
-  each : (packets : Packets) → Contains past packets → is_available n packets ≡ false
-  each packets among = false_from_ne_true (is_available n packets)
-      (λ there. elim (all-in (λ ps. (m : ℕ) → is_available m ps ≡ true →
-      IsKnownIn window m) past packets r.gone among n there) [
-    | inl still ↦ true≢false (sym still ∙ missing)
-    | inr old ↦ true≢false (sym old ∙ young)
-  ])
+      each : (packets : Packets) → Contains past packets → is_available n packets ≡ false
+      each packets among = false_from_ne_true (is_available n packets)
+          (λ there. elim (all-in (λ ps. (m : ℕ) → is_available m ps ≡ true →
+          IsKnownIn window m) past packets r.gone among n there) [
+            | inl still ↦ true≢false (sym still ∙ missing)
+            | inr old ↦ true≢false (sym old ∙ young)
+          ])
 
-  none : (ps : List Packets) → AllByRecursion (λ packets. is_available n packets ≡ false) ps →
-      list_any (stands_after_end n) ps ≡ false
-  none [] all = refl
-  none (packets ∷ ps) all =
-      or_from (stands_after_end n packets) (list_any (stands_after_end n) ps)
-      (and_left (is_available n packets) (option_map_or ends_frame (at (n - 1) packets) false) all.0) (none ps all.1)
+      none : (ps : List Packets) → AllByRecursion (λ packets. is_available n packets ≡ false) ps →
+          list_any (stands_after_end n) ps ≡ false
+      none [] all = refl
+      none (packets ∷ ps) all =
+          or_from (stands_after_end n packets) (list_any (stands_after_end n) ps)
+          (and_left (is_available n packets) (option_map_or ends_frame (at (n - 1) packets) false) all.0)
+          (none ps all.1)

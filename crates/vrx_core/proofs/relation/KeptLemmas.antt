@@ -150,13 +150,20 @@ module _ (are : RunsAre) (rise : RunsRise) where
         × GoesOn (contents (after_placing n held before.window).packets) f after.front)
     goes = elim (front-goes before.window n held inside young missing before.last_pulled before.front
         (front-of before kept.front)) [
-      | inl none ↦ inl (none.1, front_is
-          ∙ ap (λ (l : Option ℕ). front_after before.front l (contents (after_placing n held before.window).packets))
-          none.0)
-      | inr some ↦ inr (some.0, some.1,
-          subst (λ (o : Option ℕ). GoesOn (contents (after_placing n held before.window).packets) some.0 o)
-          (sym front_is) some.2)
-    ]
+          | inl none ↦ inl (
+            none.1,
+            front_is
+                ∙ ap (λ (l : Option ℕ). front_after before.front l
+                (contents (after_placing n held before.window).packets))
+                none.0,
+          )
+          | inr some ↦ inr (
+            some.0,
+            some.1,
+            subst (λ (o : Option ℕ). GoesOn (contents (after_placing n held before.window).packets) some.0 o)
+                (sym front_is) some.2,
+          )
+        ]
 
     passed_on : IsUpTo before.front after.front
     passed_on = elim goes [
@@ -252,10 +259,10 @@ module _ (are : RunsAre) (rise : RunsRise) where
     passed_on : IsUpTo before.front after.front
     passed_on =
         goes-upto (packets_of before) itself.0.last after.front goes before.front (below before.front is_run.1) where
-      below : (o : Option ℕ) → stands o itself.0 ≡ true → IsUpTo o (Some itself.0.last)
-      below None s = tt
-      below (Some old) s = let less : old < itself.0.first = stands-beyond old itself.0 s in
-          let within : itself.0.first ≤ itself.0.last = (is_run.0).not_empty in omega arith
+          below : (o : Option ℕ) → stands o itself.0 ≡ true → IsUpTo o (Some itself.0.last)
+          below None s = tt
+          below (Some old) s = let less : old < itself.0.first = stands-beyond old itself.0 s in
+              let within : itself.0.first ≤ itself.0.last = (is_run.0).not_empty in omega arith
 
     front_is_kept : IsFrontOf after.last_pulled after.front after.window.newest (packets_of after)
     front_is_kept =

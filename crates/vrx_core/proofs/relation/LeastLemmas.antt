@@ -37,12 +37,12 @@ same-test : (last front : Option ℕ) (run : Run) → is_some front ≡ is_some 
 same-test last front run both s =
     ap (λ b. b && (run.key || (is_none run.layers && (is_some last && is_passed_run front (run.first - 1))))) s
     ∙ ap (λ b. run.key || (is_none run.layers && b)) (evident last front both) where
-  evident : (last front : Option ℕ) → is_some front ≡ is_some last →
-      (is_some last && is_passed_run front (run.first - 1)) ≡ is_passed front (run.first - 1)
-  evident None None h = refl
-  evident None (Some f) h = absurd (true≢false h)
-  evident (Some l) None h = absurd (true≢false (sym h))
-  evident (Some l) (Some f) h = refl
+      evident : (last front : Option ℕ) → is_some front ≡ is_some last →
+          (is_some last && is_passed_run front (run.first - 1)) ≡ is_passed front (run.first - 1)
+      evident None None h = refl
+      evident None (Some f) h = absurd (true≢false h)
+      evident (Some l) None h = absurd (true≢false (sym h))
+      evident (Some l) (Some f) h = refl
 
 -- a run beyond the front is beyond the last number pulled
 pub stands-last : (last front : Option ℕ) (run : Run) → IsUpTo last front → stands front run ≡ true →

@@ -74,8 +74,11 @@ module _ {X : Type 0} (test : X → Bool) where
   filter-all P [] all = tt
   filter-all P (x ∷ xs) all =
       elim (test x) as (λ b. AllByRecursion P
-      (cond b (x ∷ filter test xs) (filter test xs))) [ true ↦ (all.0, filter-all P xs all.1) | false ↦ filter-all P
-      xs all.1 ]
+      (cond b (x ∷ filter test xs) (filter test xs))) [
+        | true ↦ (all.0, filter-all P xs all.1)
+        | false ↦ filter-all P
+            xs all.1
+      ]
 
   -- if all pass, all are left
   pub filter-whole : (xs : List X) → AllByRecursion (λ x. test x ≡ true) xs → filter test xs ≡ xs
@@ -142,9 +145,9 @@ module _ {X Y : Type 0} (f : X → Y) where
       elim (test (f x)) as (λ b.
       cond b (f x ∷ filter test (map f xs)) (filter test (map f xs)) ≡ map f
       (cond b (x ∷ filter (λ z. test (f z)) xs) (filter (λ z. test (f z)) xs))) [
-    | true ↦ ap (λ (ys : List Y). f x ∷ ys) (filter-map test xs)
-    | false ↦ filter-map test xs
-  ]
+        | true ↦ ap (λ (ys : List Y). f x ∷ ys) (filter-map test xs)
+        | false ↦ filter-map test xs
+      ]
 
   -- the first image that passes a test
   pub find-map : (test : Y → Bool) (xs : List X) → find test (map f xs) ≡ option_map f (find (λ x. test (f x)) xs)
@@ -168,9 +171,11 @@ module _ {X : Type 0} (number : X → ℕ) where
   pub rises-from : (xs : List X) → IsStrictlySortedBy (λ (a b : X). nat_cmp (number a) (number b)) xs → Rises xs
   unfolding IsStrictlySortedBy
   rises-from [] h = tt
-  rises-from (x ∷ xs) h = (all-of (λ y. number x < number y) xs
-      (λ y c. less-from (number x) (number y) (all-in (λ y. nat_cmp (number x) (number y) ≡ Less) xs y h.0 c)),
-      rises-from xs h.1)
+  rises-from (x ∷ xs) h = (
+    all-of (λ y. number x < number y) xs
+        (λ y c. less-from (number x) (number y) (all-in (λ y. nat_cmp (number x) (number y) ≡ Less) xs y h.0 c)),
+    rises-from xs h.1,
+  )
 
   -- and so does what passes a test of it
   pub rises-filter : (test : X → Bool) (xs : List X) → Rises xs → Rises (filter test xs)
@@ -212,7 +217,7 @@ module _ {X : Type 0} (number : X → ℕ) where
   same-lists (x ∷ xs) [] a b to back = absurd (Contains-empty x (to x (Contains-head x xs)))
   same-lists (x ∷ xs) (y ∷ ys) a b to back =
       let first : x ≡ y = firsts (Contains-either y ys x (to x (Contains-head x xs)))
-          (Contains-either x xs y (back y (Contains-head y ys))) in
+      (Contains-either x xs y (back y (Contains-head y ys))) in
       ap (λ (z : X). z ∷ xs) first
       ∙ ap (λ (zs : List X). y ∷ zs) (same-lists xs ys a.1 b.1
       (λ z c. in-rest x xs ys z a c (subst (λ w. Contains (w ∷ ys) z) (sym first) (to z (Contains-tail x xs z c))))
@@ -242,9 +247,9 @@ module _ {X : Type 0} (number : X → ℕ) where
   put-here x [] = Contains-head x []
   put-here x (y ∷ ys) =
       elim (nat_lt (number x) (number y)) as (λ b. Contains (cond b (x ∷ y ∷ ys) (y ∷ put_by number x ys)) x) [
-    | true ↦ Contains-head x (y ∷ ys)
-    | false ↦ Contains-tail y (put_by number x ys) x (put-here x ys)
-  ]
+        | true ↦ Contains-head x (y ∷ ys)
+        | false ↦ Contains-tail y (put_by number x ys) x (put-here x ys)
+      ]
 
   -- and what was there is there still
   pub put-stays : (x : X) (xs : List X) (z : X) → Contains xs z → Contains (put_by number x xs) z
@@ -261,9 +266,11 @@ module _ {X : Type 0} (number : X → ℕ) where
   -- a number below the first is below all
   below-all : (n : ℕ) (x : X) (xs : List X) → n < number x → Rises (x ∷ xs) →
       AllByRecursion (λ y. n < number y) (x ∷ xs)
-  below-all n x xs less rises =
-      (less, all-of (λ y. n < number y) xs
-      (λ y c. let above : number x < number y = all-in (λ y. number x < number y) xs y rises.0 c in omega arith))
+  below-all n x xs less rises = (
+    less,
+    all-of (λ y. n < number y) xs
+        (λ y c. let above : number x < number y = all-in (λ y. number x < number y) xs y rises.0 c in omega arith),
+  )
 
   -- with a number that none has, the list still rises
   pub rises-put : (x : X) (xs : List X) → Rises xs → AllByRecursion (λ y. number y ≢ number x) xs →
@@ -277,8 +284,11 @@ module _ {X : Type 0} (number : X → ℕ) where
       beyond : number y < number x
       beyond = let upto : number y ≤ number x = ltb-false (number x) (number y) more in
           let apart : number y ≢ number x = fresh.0 in
-              elim (cases_order (number y) (number x)) [ inl same ↦ absurd
-              (apart same) | inr other ↦ elim other [ inl less ↦ less | inr less ↦ absurd (omega arith) ] ]
+          elim (cases_order (number y) (number x)) [
+            | inl same ↦ absurd
+                (apart same)
+            | inr other ↦ elim other [ inl less ↦ less | inr less ↦ absurd (omega arith) ]
+          ]
 
       above : (z : X) → Contains (put_by number x ys) z → number y < number z
       above z c = elim (put-from x ys z c) [
@@ -290,9 +300,10 @@ module _ {X : Type 0} (number : X → ℕ) where
 pub rises-map : {X Y : Type 0} (number : X → ℕ) (number' : Y → ℕ) (f : X → Y) → ((x : X) → number' (f x) ≡ number x) →
     (xs : List X) → Rises number xs → Rises number' (map f xs)
 rises-map number number' f same [] rises = tt
-rises-map {X = X} number number' f same (x ∷ xs) rises =
-    (map-all f (λ y. number' (f x) < number' y) xs (all-of (λ z. number' (f x) < number' (f z)) xs above),
-    rises-map number number' f same xs rises.1) where
+rises-map {X = X} number number' f same (x ∷ xs) rises = (
+  map-all f (λ y. number' (f x) < number' y) xs (all-of (λ z. number' (f x) < number' (f z)) xs above),
+  rises-map number number' f same xs rises.1,
+) where
   above : (z : X) → Contains xs z → number' (f x) < number' (f z)
   above z c = let less : number x < number z = all-in (λ w. number x < number w) xs z rises.0 c in
       let e : number' (f x) ≡ number x = same x in let e' : number' (f z) ≡ number z = same z in omega arith
@@ -303,7 +314,7 @@ pub map-rises : {X Y : Type 0} (number : X → ℕ) (number' : Y → ℕ) (f : X
 map-rises number number' f same [] rises = tt
 map-rises {X = X} number number' f same (x ∷ xs) rises =
     (all-of (λ z. number x < number z) xs above, map-rises number number' f same xs rises.1) where
-  above : (z : X) → Contains xs z → number x < number z
-  above z c = let less : number' (f x) < number' (f z) =
-      all-in (λ w. number' (f x) < number' w) (map f xs) (f z) rises.0 (map-to f xs z c) in
-      let e : number' (f x) ≡ number x = same x in let e' : number' (f z) ≡ number z = same z in omega arith
+      above : (z : X) → Contains xs z → number x < number z
+      above z c = let less : number' (f x) < number' (f z) =
+          all-in (λ w. number' (f x) < number' w) (map f xs) (f z) rises.0 (map-to f xs z c) in
+          let e : number' (f x) ≡ number x = same x in let e' : number' (f z) ≡ number z = same z in omega arith

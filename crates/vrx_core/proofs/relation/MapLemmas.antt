@@ -132,10 +132,10 @@ module _ {X Y : Type 0} (f : X → Y) where
       values (by_order o ((n, x) ∷ e ∷ es) ((e.0, x) ∷ es) (e ∷ put nat_cmp n x es)) ≡ by_order o
       ((n, f x) ∷ (e.0, f e.1) ∷ values es) ((e.0, f x) ∷ values es)
       ((e.0, f e.1) ∷ put nat_cmp n (f x) (values es))) [
-    | Less ↦ refl
-    | Equal ↦ refl
-    | Greater ↦ ap (λ (ds : List (ℕ × Y)). (e.0, f e.1) ∷ ds) (map_put n x es)
-  ]
+        | Less ↦ refl
+        | Equal ↦ refl
+        | Greater ↦ ap (λ (ds : List (ℕ × Y)). (e.0, f e.1) ∷ ds) (map_put n x es)
+      ]
 
   -- and of one from which some numbers are left out
   pub map_where : (p : ℕ → Bool) (es : List (ℕ × X)) →
@@ -144,9 +144,9 @@ module _ {X Y : Type 0} (f : X → Y) where
   map_where p (e ∷ es) = elim (p e.0) as (λ b.
       values (cond b (e ∷ where_key nat_cmp p es) (where_key nat_cmp p es)) ≡ cond b
       ((e.0, f e.1) ∷ where_key nat_cmp p (values es)) (where_key nat_cmp p (values es))) [
-    | true ↦ ap (λ (ds : List (ℕ × Y)). (e.0, f e.1) ∷ ds) (map_where p es)
-    | false ↦ map_where p es
-  ]
+        | true ↦ ap (λ (ds : List (ℕ × Y)). (e.0, f e.1) ∷ ds) (map_where p es)
+        | false ↦ map_where p es
+      ]
 
   -- the keys are the same, so the order is
   below_map : (k : ℕ) (es : List (ℕ × X)) → below_all nat_cmp k (values es) ≡ below_all nat_cmp k es

@@ -131,14 +131,14 @@ module _ (are : RunsAre) (rise : RunsRise) where
       (sorted-contents parts.window.packets sorted) (sorted-contents parts.window.packets sorted)
       (λ run r s. (
         run-moves codec no_layers (is_start parts.front (is_among parts.known.began))
-        (is_start parts.front (began_after_end times)) (packets_of parts) (packets_of parts) run r
-        (λ m piece from upto is. (is, same m piece is)),
+            (is_start parts.front (began_after_end times)) (packets_of parts) (packets_of parts) run r
+            (λ m piece from upto is. (is, same m piece is)),
         stands-last parts.last_pulled parts.front run kept.front.ahead s,
       ))
       (λ run r s. (
         run-moves codec no_layers (is_start parts.front (began_after_end times))
-        (is_start parts.front (is_among parts.known.began)) (packets_of parts) (packets_of parts) run r
-        (λ m piece from upto is. (is, sym (same m piece is))),
+            (is_start parts.front (is_among parts.known.began)) (packets_of parts) (packets_of parts) run r
+            (λ m piece from upto is. (is, sym (same m piece is))),
         beyond parts.front refl run r s,
       )) where
         same : (m : ℕ) (piece : Piece) → IsPiece codec (packets_of parts) m piece →
@@ -146,8 +146,8 @@ module _ (are : RunsAre) (rise : RunsRise) where
             (began_after_end times) piece
         same m piece is =
             let there : is_available piece.number (packets_of parts) ≡ true =
-                ap (λ k. is_available k (packets_of parts)) is.number
-                ∙ piece-available codec (packets_of parts) m piece is in
+            ap (λ k. is_available k (packets_of parts)) is.number
+            ∙ piece-available codec (packets_of parts) m piece is in
             ap (λ b. begins piece.part.start (is_passed parts.front (piece.number - 1) || b))
             (among-began (packets_of parts) times parts.known.began piece.number began
             ∙ ap (λ b. began_after_end times piece.number && b) there ∙ and_true (began_after_end times piece.number))
@@ -161,10 +161,10 @@ module _ (are : RunsAre) (rise : RunsRise) where
           | inl less ↦ less
           | inr upto ↦
               let first_there : is_available run.first (packets_of parts) ≡ true =
-                  run-available codec no_layers (is_start parts.front (began_after_end times))
-                  (packets_of parts) run run.first r (omega arith) r.not_empty in
+              run-available codec no_layers (is_start parts.front (began_after_end times))
+              (packets_of parts) run run.first r (omega arith) r.not_empty in
               let p = piece-in codec no_layers (is_start parts.front (began_after_end times))
-                  (packets_of parts) run run.first r (omega arith) r.not_empty in
+              (packets_of parts) run run.first r (omega arith) r.not_empty in
               absurd (none_media p (kept.front.over run.first
               (subst (λ (o : Option ℕ). IfSome o (λ last. last < run.first)) (sym last_is) (stands-beyond l run s))
               (subst (λ (o : Option ℕ). IsSomeAnd o (λ front. run.first ≤ front)) (sym front_is) upto)
@@ -217,11 +217,11 @@ module _ (are : RunsAre) (rise : RunsRise) where
         (standing_runs codec no_layers parts.front parts.known (packets_of parts)))
     next-told parts stood kept sorted inside = (
       ap (next_of parts.front) kept.frames
-      ∙ answer-told parts.last_pulled parts.front
-      (standing_runs codec no_layers parts.front parts.known (packets_of parts)) rises kept.front.both all
-      ∙ ap (option_map summary_of) (sym machine),
+          ∙ answer-told parts.last_pulled parts.front
+          (standing_runs codec no_layers parts.front parts.known (packets_of parts)) rises kept.front.both all
+          ∙ ap (option_map summary_of) (sym machine),
       machine ∙ answer-find parts.last_pulled parts.front
-      (standing_runs codec no_layers parts.front parts.known (packets_of parts)) rises kept.front.both all,
+          (standing_runs codec no_layers parts.front parts.known (packets_of parts)) rises kept.front.both all,
     ) where
       rises : Rises first_of (standing_runs codec no_layers parts.front parts.known (packets_of parts))
       rises = known-rises rise codec parts.front parts.known (packets_of parts)
@@ -321,11 +321,11 @@ module _ (are : RunsAre) (rise : RunsRise) where
           ∙ elim (cases_eq m n) [
             | inl same ↦
                 let no_began : began_after_end (times (snapshots settings codec h)) m ≡ false =
-                    ap (began_after_end (times (snapshots settings codec h))) same ∙ never in
+                ap (began_after_end (times (snapshots settings codec h))) same ∙ never in
                 ap (λ b. b && is_available m (packets_of before)) no_began ∙ sym no_began
             | inr apart ↦
                 let x : (c : Content) × (at m (contents (after_placing n held before.window).packets) ≡ Some c) =
-                    some-of (at m (contents (after_placing n held before.window).packets)) there in
+                some-of (at m (contents (after_placing n held before.window).packets)) there in
                 ap (λ b. began_after_end (times (snapshots settings codec h)) m && b)
                 (ap is_some (after_placing-from before.window n held m x.0 apart x.1).1)
                 ∙ and_true (began_after_end (times (snapshots settings codec h)) m)
@@ -367,11 +367,11 @@ module _ (are : RunsAre) (rise : RunsRise) where
                 (contents (after_placing n held before.window).packets ∷ times (snapshots settings codec h)) m
             each m among =
                 let e : (entry : ℕ × Content) × Contains (contents (after_placing n held before.window).packets) entry
-                    × (entry.0 ≡ m) = map-from (λ (entry : ℕ × Content). entry.0)
-                    (contents (after_placing n held before.window).packets) m among in
+                × (entry.0 ≡ m) = map-from (λ (entry : ℕ × Content). entry.0)
+                (contents (after_placing n held before.window).packets) m among in
                 let there : is_available m (contents (after_placing n held before.window).packets) ≡ true =
-                    subst (λ k. is_available k (contents (after_placing n held before.window).packets) ≡ true) e.2
-                    (entry-available (contents (after_placing n held before.window).packets) e.0 e.1) in
+                subst (λ k. is_available k (contents (after_placing n held before.window).packets) ≡ true) e.2
+                (entry-available (contents (after_placing n held before.window).packets) e.0 e.1) in
                 ap (λ b. b || stands_after_end m (contents (after_placing n held before.window).packets))
                 (was m there) ∙ or_comm (began_after_end (times (snapshots settings codec h)) m)
                 (stands_after_end m (contents (after_placing n held before.window).packets))
@@ -406,7 +406,9 @@ module _ (are : RunsAre) (rise : RunsRise) where
       stands = record {
         window = ap contents_of pulled.window ∙ stood.window;
         known = record {
-            arrivals = ap (λ (k : Known). k.arrivals) pulled.known ∙ stood.known.arrivals; began = began_is };
+          arrivals = ap (λ (k : Known). k.arrivals) pulled.known ∙ stood.known.arrivals;
+          began = began_is;
+        };
         frames = kept'.frames
             ∙ ap (map summary_of) (standing_runs-same codec after
             (packets_of before ∷ times (snapshots settings codec h)) kept'

@@ -16,7 +16,7 @@ pub taken-after_placing : (codec : Meaning) (window : Contents Held) (n : ℕ) (
 taken-after_placing codec window n held taken sound plain m other is = elim (cases_eq m n) [
   | inl same ↦
       let e : Some held ≡ Some other =
-          sym (at_put-here n held left) ∙ ap (λ k. at k (after_placing n held window).packets) (sym same) ∙ is in
+      sym (at_put-here n held left) ∙ ap (λ k. at k (after_placing n held window).packets) (sym same) ∙ is in
       let one : held ≡ other = cc in
       subst (λ x. IsSound codec x × (place_of (Some x) ≡ None)) one (sound, plain)
   | inr apart ↦

@@ -20,8 +20,10 @@ use Rattle.vrx_core.proofs.relation.ListLemmas.{Rises, filter-from, filter-to, r
 -- a number is the first, or later
 pub first_or_later : (n m : ℕ) → n ≤ m → (n ≡ m) ⊎ (n + 1 ≤ m)
 first_or_later n m upto =
-    elim (cases_order n m) [ inl same ↦ inl same | inr
-    other ↦ elim other [ inl less ↦ inr (omega arith) | inr more ↦ absurd (omega arith) ] ]
+    elim (cases_order n m) [
+      | inl same ↦ inl same
+      | inr other ↦ elim other [ inl less ↦ inr (omega arith) | inr more ↦ absurd (omega arith) ]
+    ]
 
 module _ (codec : Meaning) where
   -- if the same stands under a number, its piece is the same
@@ -29,7 +31,12 @@ module _ (codec : Meaning) where
       IsPiece codec packets n piece → IsPiece codec packets' n piece
   piece-moves packets packets' n piece same is =
       record {
-      number = is.number; text = is.text; media = sym same ∙ is.media; reads = is.reads; part_reads = is.part_reads }
+        number = is.number;
+        text = is.text;
+        media = sym same ∙ is.media;
+        reads = is.reads;
+        part_reads = is.part_reads;
+      }
 
   -- a piece is available
   pub piece-available : (packets : Packets) (n : ℕ) (piece : Piece) → IsPiece codec packets n piece →
@@ -72,7 +79,7 @@ module _ (codec : Meaning) where
       IsRunBy codec place starts packets run → option_map_or ends_frame (at run.last packets) false ≡ true
   last-ends place starts packets run r =
       let p : Held packets (λ p. (p.packet.marker ≡ true) ↔ (p.number ≡ run.last)) run.last =
-          piece-in place starts packets run run.last r r.not_empty (omega arith) in
+      piece-in place starts packets run run.last r r.not_empty (omega arith) in
       ap (λ o. option_map_or ends_frame o false) p.is.media
       ∙ ap (λ o. option_map_or (λ packet. packet.marker) o false) p.is.reads ∙ p.holds.1 p.is.number
 
@@ -102,15 +109,15 @@ module _ (codec : Meaning) where
     moved n (p ∷ ps) moves from size are all =
         let here : IsPiece codec packets' n p × (starts p ≡ starts' p) = moves n p from (omega arith) are.0 in
         let rest : ArePieces codec packets' (n + 1) ps × AllByRecursion (Starts starts') ps =
-            moved (n + 1) ps moves (omega arith) (omega arith) are.1 all.1 in
+        moved (n + 1) ps moves (omega arith) (omega arith) are.1 all.1 in
         ((here.0, rest.0), ((λ s. all.0.0 (here.1 ∙ s), λ e. sym here.1 ∙ all.0.1 e), rest.1))
 
     -- a run whose pieces stay, and of whose pieces each is a start as before, is a run there too
     pub run-moves : IsRunBy codec place starts packets run → Moves → IsRunBy codec place starts' packets' run
     run-moves r moves =
         let there : ArePieces codec packets' run.first r.pieces × AllByRecursion (Starts starts') r.pieces =
-            moved run.first r.pieces moves (omega arith) r.to_last r.from_first
-            (recursion_from_All _ r.pieces r.start) in
+        moved run.first r.pieces moves (omega arith) r.to_last r.from_first
+        (recursion_from_All _ r.pieces r.start) in
         record {
           pieces = r.pieces;
           from_first = there.0;
@@ -135,7 +142,7 @@ module _ (are : RunsAre) (codec : Meaning) (place : ℕ → Option Place) (passe
       IsRunBy codec place starts packets run × (stands passed run ≡ true)
   standing-from run there =
       let p : Contains (runs_by codec place starts packets) run × (stands passed run ≡ true) =
-          filter-from (stands passed) (runs_by codec place starts packets) run there in
+      filter-from (stands passed) (runs_by codec place starts packets) run there in
       ((are codec place starts packets run).0 p.0, p.1)
 
   -- and back
@@ -204,10 +211,10 @@ start-same codec packets began before front n piece behind upto ends beyond is =
         let number : piece.number ≡ n = is.number in
         let before_is : front ≡ n - 1 = omega arith in
         let end' : option_map_or ends_frame (at (n - 1) packets) false ≡ true =
-            subst (λ k. option_map_or ends_frame (at k packets) false ≡ true) before_is end in
+        subst (λ k. option_map_or ends_frame (at k packets) false ≡ true) before_is end in
         let stood : stands_after_end n packets ≡ true =
-            and_from (is_available n packets) (option_map_or ends_frame (at (n - 1) packets) false)
-            (piece-available codec packets n piece is) end' in
+        and_from (is_available n packets) (option_map_or ends_frame (at (n - 1) packets) false)
+        (piece-available codec packets n piece is) end' in
         let began_is : began piece.number ≡ true = ap began number ∙ behind n stood in
         ap (λ b. begins piece.part.start (is_passed before (piece.number - 1) || b)) began_is
         ∙ ap (λ b. begins piece.part.start b)

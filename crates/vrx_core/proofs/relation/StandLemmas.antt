@@ -59,9 +59,9 @@ module _ (are : RunsAre) (rise : RunsRise) (codec : Meaning) where
         at m (contents window.packets) ≡ at m (packets_under told now)
     stays told_is inside missing m there upto =
         let high : m ≤ newest_with window.newest n =
-            inside-upto window.newest n m (inside m (sym (available-contents m window.packets) ∙ there)) in
+        inside-upto window.newest n m (inside m (sym (available-contents m window.packets) ∙ there)) in
         let in_new : in_window (newest_with window.newest n) m ≡ true =
-            order-window (newest_with window.newest n) m (omega arith) high in
+        order-window (newest_with window.newest n) m (omega arith) high in
         sym (at_where-yes (λ k. is_available k told) m now
         (told-available codec told (contents window.packets) m told_is ∙ there)
         ∙ after_placing-stays window n held m missing there in_new)
@@ -72,18 +72,18 @@ module _ (are : RunsAre) (rise : RunsRise) (codec : Meaning) where
         (is_available m (contents window.packets) ≡ true) × (lowest ≤ m)
     was told_is missing m there =
         let x : (c : Content) × (at m (packets_under told now) ≡ Some c) =
-            some-of (at m (packets_under told now)) there in
+        some-of (at m (packets_under told now)) there in
         let p : (is_available m told ≡ true) × (at m now ≡ Some x.0) =
-            at_where-from (λ k. is_available k told) m now x.0 x.1 in
+        at_where-from (λ k. is_available k told) m now x.0 x.1 in
         let before : is_available m (contents window.packets) ≡ true =
-            sym (told-available codec told (contents window.packets) m told_is) ∙ p.0 in
+        sym (told-available codec told (contents window.packets) m told_is) ∙ p.0 in
         let other : m ≢ n = λ same.
-            true≢false (sym before ∙ ap (λ k. is_available k (contents window.packets)) same
-            ∙ available-contents n window.packets ∙ missing) in
+        true≢false (sym before ∙ ap (λ k. is_available k (contents window.packets)) same
+        ∙ available-contents n window.packets ∙ missing) in
         let q : (in_window (newest_with window.newest n) m ≡ true) × (at m (contents window.packets) ≡ Some x.0) =
-            after_placing-from window n held m x.0 other p.1 in
+        after_placing-from window n held m x.0 other p.1 in
         let order : (newest_with window.newest n < m + WINDOW) × (m ≤ newest_with window.newest n) =
-            window-order (newest_with window.newest n) m q.0 in
+        window-order (newest_with window.newest n) m q.0 in
         (before, omega (arith, order.0))
 
     -- so the runs are the same
@@ -109,14 +109,16 @@ module _ (are : RunsAre) (rise : RunsRise) (codec : Meaning) where
               Contains (standing-by codec no_layers front starts (packets_under told now)) run
           to run there =
               let p = filter-from (λ run. nat_le lowest run.first)
-                  (standing-by codec no_layers front starts (contents window.packets)) run there in
+              (standing-by codec no_layers front starts (contents window.packets)) run there in
               let q = standing-from are codec no_layers front starts (contents window.packets) run p.0 in
               let low : lowest ≤ run.first = leb-true lowest run.first p.1 in
               standing-to are codec no_layers front starts (packets_under told now) run
               (run-moves codec no_layers starts starts (contents window.packets) (packets_under told now) run q.0
-              (λ m piece from upto is.
-              (piece-moves codec (contents window.packets) (packets_under told now) m piece
-              (stays told_is inside missing m (ap is_some is.media) (omega arith)) is, refl)))
+              (λ m piece from upto is. (
+                piece-moves codec (contents window.packets) (packets_under told now) m piece
+                    (stays told_is inside missing m (ap is_some is.media) (omega arith)) is,
+                refl,
+              )))
               q.1
 
           back : (run : Run) → Contains (standing-by codec no_layers front starts (packets_under told now)) run →
@@ -125,16 +127,18 @@ module _ (are : RunsAre) (rise : RunsRise) (codec : Meaning) where
           back run there =
               let q = standing-from are codec no_layers front starts (packets_under told now) run there in
               let first_there : is_available run.first (packets_under told now) ≡ true =
-                  run-available codec no_layers starts (packets_under told now) run run.first q.0 (omega arith)
-                  (q.0).not_empty in
+              run-available codec no_layers starts (packets_under told now) run run.first q.0 (omega arith)
+              (q.0).not_empty in
               let low : lowest ≤ run.first = (was told_is missing run.first first_there).1 in
               filter-to (λ run. nat_le lowest run.first)
               (standing-by codec no_layers front starts (contents window.packets)) run
               (standing-to are codec no_layers front starts (contents window.packets) run
               (run-moves codec no_layers starts starts (packets_under told now) (contents window.packets) run q.0
-              (λ m piece from upto is. let w = was told_is missing m (ap is_some is.media) in
-              (piece-moves codec (packets_under told now) (contents window.packets) m piece
-              (sym (stays told_is inside missing m w.0 w.1)) is, refl)))
+              (λ m piece from upto is. let w = was told_is missing m (ap is_some is.media) in (
+                piece-moves codec (packets_under told now) (contents window.packets) m piece
+                    (sym (stays told_is inside missing m w.0 w.1)) is,
+                refl,
+              )))
               q.1)
               (le-leb lowest run.first low)
 
@@ -149,13 +153,19 @@ module _ (are : RunsAre) (rise : RunsRise) (codec : Meaning) where
         (is_start (Some g.front) began) packets packets sorted sorted
         (λ run r s. let beyond : g.front < run.first =
         begins-beyond codec (is_start (Some front) began) packets run front g.front r g.over
-        (stands-beyond front run s) in
-        (run-moves codec no_layers (is_start (Some front) began) (is_start (Some g.front) began) packets packets run r
-        (λ m piece from upto is. (is, same m piece (omega arith) is)), beyond-stands g.front run beyond))
+        (stands-beyond front run s) in (
+          run-moves codec no_layers (is_start (Some front) began)
+              (is_start (Some g.front) began) packets packets run r
+              (λ m piece from upto is. (is, same m piece (omega arith) is)),
+          beyond-stands g.front run beyond,
+        ))
         (λ run r s. let beyond : g.front < run.first = stands-beyond g.front run s in let less : front ≤ g.front =
-        g.upto in
-        (run-moves codec no_layers (is_start (Some g.front) began) (is_start (Some front) began) packets packets run r
-        (λ m piece from upto is. (is, sym (same m piece (omega arith) is))), beyond-stands front run (omega arith)))
+        g.upto in (
+          run-moves codec no_layers (is_start (Some g.front) began)
+              (is_start (Some front) began) packets packets run r
+              (λ m piece from upto is. (is, sym (same m piece (omega arith) is))),
+          beyond-stands front run (omega arith),
+        ))
         ∙ ap (λ o. standing-by codec no_layers o (is_start o began) packets) (sym g.front_is) where
           ends : (Some front ≡ Some g.front) ⊎ (option_map_or ends_frame (at g.front packets) false ≡ true)
           ends = elim (goes-ends packets front after g) [ inl same ↦ inl (ap Some same) | inr end ↦ inr end ]
@@ -221,7 +231,7 @@ module _ (are : RunsAre) (rise : RunsRise) (codec : Meaning) where
               Contains (standing-by codec no_layers (Some g.front) (is_start (Some g.front) began) packets) other
           to other c =
               let p = filter-from (λ other. nat_le (run.first + 1) other.first)
-                  (standing-by codec no_layers before (is_start before began) packets) other c in
+              (standing-by codec no_layers before (is_start before began) packets) other c in
               let q = standing-from are codec no_layers before (is_start before began) packets other p.0 in
               let later : run.first + 1 ≤ other.first = leb-true (run.first + 1) other.first p.1 in
               let past : run.last < other.first = elim (cases_lt run.last other.first) [
@@ -229,12 +239,12 @@ module _ (are : RunsAre) (rise : RunsRise) (codec : Meaning) where
                 | inr inner ↦
                     let r' = q.0 in let some : other.first ≤ other.last = r'.not_empty in
                     let one : run ≡ other = apart codec no_layers
-                        (is_start before began) packets run other other.first itself.0 q.0 (omega arith, inner)
-                        (omega arith, some) in
+                    (is_start before began) packets run other other.first itself.0 q.0 (omega arith, inner)
+                    (omega arith, some) in
                     let e : run.first ≡ other.first = ap first_of one in absurd (omega arith)
               ] in
               let beyond : g.front < other.first =
-                  begins-beyond codec (is_start before began) packets other run.last g.front q.0 g.over past in
+              begins-beyond codec (is_start before began) packets other run.last g.front q.0 g.over past in
               standing-to are codec no_layers (Some g.front) (is_start (Some g.front) began) packets other
               (run-moves codec no_layers (is_start before began)
               (is_start (Some g.front) began) packets packets other q.0
@@ -247,7 +257,7 @@ module _ (are : RunsAre) (rise : RunsRise) (codec : Meaning) where
               (standing-by codec no_layers before (is_start before began) packets)) other
           back other c =
               let q =
-                  standing-from are codec no_layers (Some g.front) (is_start (Some g.front) began) packets other c in
+              standing-from are codec no_layers (Some g.front) (is_start (Some g.front) began) packets other c in
               let beyond : g.front < other.first = stands-beyond g.front other q.1 in
               let less : run.first < other.first = omega (arith, within, reach, beyond) in
               filter-to (λ other. nat_le (run.first + 1) other.first)

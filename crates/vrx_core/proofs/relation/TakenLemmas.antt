@@ -90,7 +90,7 @@ module _ (codec : Meaning) (window : Contents Held) (n : ℕ) (held : Held) (pas
       is_among then.began m ≡ true
   behind-then is m stood =
       let p : (is_available m now ≡ true) × (option_map_or ends_frame (at (m - 1) now) false ≡ true) =
-          and_parts (is_available m now) (option_map_or ends_frame (at (m - 1) now) false) stood in
+      and_parts (is_available m now) (option_map_or ends_frame (at (m - 1) now) false) stood in
       among-then is m p.0 ∙ or_right (is_among k.began m) (stands_after_end m now) stood
 
   -- the runs that stand: what was left in the window, with the answers, is what stands after the front went on

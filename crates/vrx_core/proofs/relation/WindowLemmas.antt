@@ -125,9 +125,9 @@ module _ (window : Contents Held) (n : ℕ) (held : Held) where
       → at q (contents (after_placing n held window).packets) ≡ at q (contents window.packets)
   after_placing-stays q missing there inside =
       after_placing-other q other ∙ ap (λ b. cond b (at q (contents window.packets)) None) inside where
-    other : q ≢ n
-    other same = true≢false (sym there ∙ ap (λ k. is_available k (contents window.packets)) same
-        ∙ available-contents n window.packets ∙ missing)
+        other : q ≢ n
+        other same = true≢false (sym there ∙ ap (λ k. is_available k (contents window.packets)) same
+            ∙ available-contents n window.packets ∙ missing)
 
   -- what stands there stood there, and is left, or is n
   pub after_placing-from : (q : ℕ) (content : Content) → q ≢ n →
@@ -136,9 +136,9 @@ module _ (window : Contents Held) (n : ℕ) (held : Held) where
   after_placing-from q content other is =
       either (in_window (newest_with window.newest n) q) (at q (contents window.packets))
       (sym (after_placing-other q other) ∙ is) where
-    either : (b : Bool) (o : Option Content) → cond b o None ≡ Some content → (b ≡ true) × (o ≡ Some content)
-    either true o h = (refl, h)
-    either false o h = absurd (cc)
+        either : (b : Bool) (o : Option Content) → cond b o None ≡ Some content → (b ≡ true) × (o ≡ Some content)
+        either true o h = (refl, h)
+        either false o h = absurd (cc)
 
 -- what is known, if all that is held is told
 pub told-whole : (codec : Meaning) (told : List (ℕ × Shape)) (packets : Packets) → told ≡ shapes_of codec packets →

@@ -1,6 +1,5 @@
 -- What a datagram that was handled leaves: the missing numbers stay fresh.
-use Rattle.std.proofs.Common.{◌≡◌, ℕ, ◌+◌, ◌*◌, ◌^◌, ◌<◌, ◌≤◌, List, Option, Some, None, IfSome, Result, Ok, Err, sym, subst, ap, ◌∙◌, arith}
-use Rattle.vrx_asks.specs.declared.ask.Ask.{Ask}
+use Rattle.std.proofs.Common.{ℕ, ◌+◌, ◌*◌, ◌^◌, ◌<◌, ◌≤◌, List, Option, Some, None, IfSome, Result, Ok, Err, sym, subst, arith}
 use Rattle.vrx_codec.specs.Meaning.{Meaning}
 use Rattle.vrx_num.specs.declared.limits.TheConstants.{HALF_SPACE, MOST_EVENTS}
 use Rattle.vrx_window.specs.Content.{Content, contents_of}
@@ -8,7 +7,7 @@ use Rattle.vrx_window.specs.Window.{Contents}
 use Rattle.vrx_window.specs.declared.held.Held.{Held}
 use Rattle.vrx_core.specs.machine.Verdict.{verdict}
 use Rattle.vrx_core.specs.relation.StandsFor.{Assembly, Wanted}
-use Rattle.vrx_core.specs.inside.Fields.{ComesOf, IsHandled, IsSound, IsTakenWith, IsWhole}
+use Rattle.vrx_core.specs.inside.Fields.{ComesOf, IsHandled, IsWhole}
 use Rattle.vrx_core.specs.inside.Wants.{AreBelow, AreFresh, asks_taken, wanted_with}
 use Rattle.vrx_core.specs.declared.assembler.Arrival.{Arrival}
 use Rattle.vrx_core.specs.declared.assembler.Outcome.{Outcome}

@@ -15,7 +15,7 @@ use Rattle.vrx_frames.specs.Run.{Run}
 use Rattle.vrx_core.specs.machine.Answers.{AnswersHold, IsLeastDeliverable, NoneDeliverable}
 use Rattle.vrx_core.specs.machine.History.{now}
 use Rattle.vrx_core.specs.machine.Snapshot.{moved}
-use Rattle.vrx_core.specs.machine.Machine.{IfFrame, Reply, ToDatagram, ToTick, ToPull, Snapshot, after_datagram, after_pull, after_tick, frame_of, last_pulled, latest, next, next_run, pulled_of, reply, snapshots, what_of, with_numbers}
+use Rattle.vrx_core.specs.machine.Machine.{IfFrame, ToPull, Snapshot, after_datagram, after_pull, after_tick, frame_of, last_pulled, latest, next, next_run, pulled_of, reply, snapshots, what_of, with_numbers}
 use Rattle.vrx_core.specs.machine.Verdict.{verdict}
 use Rattle.vrx_core.specs.relation.Frames.{next_of, runs_from}
 use Rattle.vrx_core.specs.relation.StandsFor.{Assembly, IsAssembled, StandsIn}
@@ -239,8 +239,8 @@ module _ (are : RunsAre) (rise : RunsRise) where
     pull-by settings codec h before after moment frame None due comes whole whole' stands =
         let past : List Snapshot = snapshots settings codec h in
         let none : next_run (latest past) ≡ None =
-            stands-none are rise settings codec h before stands whole.kept whole.window.packets_rise
-            whole.window.packets_inside due in
+        stands-none are rise settings codec h before stands whole.kept whole.window.packets_rise
+        whole.window.packets_inside due in
         record {
           stands = subst (λ o. StandsIn codec after (after_pull codec past moment o ∷ past)) (sym none)
               (subst (λ p. StandsIn codec p (moved (latest past) moment ∷ past)) (sym comes.1)
@@ -250,8 +250,8 @@ module _ (are : RunsAre) (rise : RunsRise) where
     pull-by settings codec h before after moment frame (Some told) due comes whole whole' stands =
         let past : List Snapshot = snapshots settings codec h in
         let is : IsNext codec before after past moment told =
-            stands-pulled are rise settings codec h apart before after told moment stands whole.kept
-            whole.window.packets_rise whole.window.packets_inside due comes.3 whole'.kept in
+        stands-pulled are rise settings codec h apart before after told moment stands whole.kept
+        whole.window.packets_rise whole.window.packets_inside due comes.3 whole'.kept in
         record {
           stands =
               subst (λ o. StandsIn codec after (after_pull codec past moment o ∷ past)) (sym is.next_is) is.stands;
@@ -274,7 +274,7 @@ module _ (are : RunsAre) (rise : RunsRise) where
     pull-stands codec before after moment frame h handed whole whole' stands =
         let count = pull-counts codec before after moment frame handed in
         let pull : IsPull codec after (snapshots before.settings codec h) moment frame =
-            pull-is codec before after moment frame h handed whole whole' stands in
+        pull-is codec before after moment frame h handed whole whole' stands in
         stands-on codec before after h (Pull moment) moment stands
         (pull-settings codec before after moment frame handed) count.0
         (count.1 ∙ ap (λ k. max k moment) stands.clock) pull.stands
@@ -336,14 +336,16 @@ module _ (are : RunsAre) (rise : RunsRise) where
           (h : List Event) → IsHandedOut codec before after moment frame → IsWhole codec before →
           IsWhole codec after → IsAssembled codec before h
           → let s : Snapshot = latest (snapshots before.settings codec h) in
-              (pulled_by frame ≡ pulls.NotReady) ↔ NoneDeliverable (last_pulled s.pulled) s.front s.standing
+          (pulled_by frame ≡ pulls.NotReady) ↔ NoneDeliverable (last_pulled s.pulled) s.front s.standing
       pull-exactly codec before after moment frame h handed whole whole' stands =
           let s : Snapshot = latest (snapshots before.settings codec h) in
           let pull : IsPull codec after (snapshots before.settings codec h) moment frame =
-              pull-is codec before after moment frame h handed whole whole' stands in
-          let law = (answers (last_pulled s.pulled) s.front s.standing).none in
-          (λ e. law.0 (none-of (next_run s) frame pull.frame_is e), λ none.
-          ap pulled_by (pull.frame_is ∙ ap (option_map frame_of) (law.1 none))) where
+          pull-is codec before after moment frame h handed whole whole' stands in
+          let law = (answers (last_pulled s.pulled) s.front s.standing).none in (
+            λ e. law.0 (none-of (next_run s) frame pull.frame_is e),
+            λ none.
+                ap pulled_by (pull.frame_is ∙ ap (option_map frame_of) (law.1 none)),
+          ) where
             none-of : (o : Option Run) (f : Option Frame) → f ≡ option_map frame_of o → pulled_by f ≡ pulls.NotReady →
                 o ≡ None
             none-of None f is e = refl
@@ -361,7 +363,7 @@ module _ (are : RunsAre) (rise : RunsRise) where
       pull-frame codec before after moment frame h handed whole whole' stands =
           let s : Snapshot = latest (snapshots before.settings codec h) in
           let pull : IsPull codec after (snapshots before.settings codec h) moment frame =
-              pull-is codec before after moment frame h handed whole whole' stands in
+          pull-is codec before after moment frame h handed whole whole' stands in
           least-of s (next_run s) frame pull.frame_is (answers (last_pulled s.pulled) s.front s.standing).some where
             least-of : (s : Snapshot) (o : Option Run) (f : Option Frame) → f ≡ option_map frame_of o →
                 IfSome o (λ run. IsLeastDeliverable (last_pulled s.pulled) s.front s.standing run)

@@ -97,11 +97,11 @@ fields-pulled are rise apart codec settings count count' window known frames fra
     let whole : IsWhole codec before = fields.whole in
     let joins : IsJoinable codec window.packets run = next-joinable are codec before run whole due in
     let beyond : is_passed front run.first ≡ false =
-        all-in (λ r. is_passed front r.first ≡ false) frames.runs run
-        (recursion_from_All (λ r. is_passed front r.first ≡ false) frames.runs (next-beyond codec before whole.kept))
-        (next-among front frames.runs run due) in
+    all-in (λ r. is_passed front r.first ≡ false) frames.runs run
+    (recursion_from_All (λ r. is_passed front r.first ≡ false) frames.runs (next-beyond codec before whole.kept))
+    (next-among front frames.runs run due) in
     let last : after_pulled last_pulled ≤ run.first =
-        later last_pulled front run.first whole.kept.front.ahead beyond in
+    later last_pulled front run.first whole.kept.front.ahead beyond in
     let some : run.first ≤ run.last = joins.some in
     let low : lowest_of window.newest ≤ frames.from = fields.low in
     let high : frames.from ≤ max (lowest_of window.newest) (after_pulled last_pulled) = fields.high in
@@ -110,8 +110,13 @@ fields-pulled are rise apart codec settings count count' window known frames fra
         kept = kept-pulled are rise apart codec before after run whole.kept whole.window.packets_rise
             whole.window.packets_inside due
             (record {
-            settings = refl; window = refl; known = refl; frames = runs; last_pulled = refl; front =
-            front_is }) counts (omega arith);
+              settings = refl;
+              window = refl;
+              known = refl;
+              frames = runs;
+              last_pulled = refl;
+              front = front_is;
+            }) counts (omega arith);
         window = whole.window;
       };
       newest = fields.newest;

@@ -99,7 +99,7 @@ stays-fresh window n held k other below young alive absent =
     let after : ℕ = newest_with window.newest n in (
       below,
       fresh-by (is_too_old (Some after) k) (is_dead k (filter (in_window after) window.dead))
-      (is_available k (entries_with after n held window.packets))
+          (is_available k (entries_with after n held window.packets))
           (false_from_ne_true (is_too_old (Some after) k)
           (λ is. let old : k + WINDOW ≤ after = leb-true (k + WINDOW) after is in absurd (omega (arith, old, young))))
           (among-filter (in_window after) window.dead k ∙ and-none (in_window after k) (is_among window.dead k) alive)
@@ -119,7 +119,7 @@ gap-in : (newest : Option ℕ) (n k : ℕ) → Contains (gap_of newest n) k → 
 gap-in None n k c = let p : (n ≤ k) × (k < n) = below-bounds n n k c in absurd (omega (arith, p.0, p.1))
 gap-in (Some before) n k c =
     let p : (max (before + 1) (max before n + 1 - WINDOW) ≤ k) × (k < max before n) =
-        below-bounds (max (before + 1) (max before n + 1 - WINDOW)) (max before n) k c in
+    below-bounds (max (before + 1) (max before n + 1 - WINDOW)) (max before n) k c in
     record {
       other = λ same. omega (arith, same, p.0, p.1);
       below = p.1;
@@ -150,7 +150,7 @@ left-fresh : (window : Contents Held) (n : ℕ) (held : Held) (front : Option �
     IsFreshIn (after_placing n held window) a.number
 left-fresh window n held front asks a fresh c =
     let left : Contains asks a × (newest_with window.newest n - WINDOW < a.number) × (not (a.number == n) ≡ true) =
-        left-from front (newest_with window.newest n - WINDOW) n asks a c in
+    left-from front (newest_with window.newest n - WINDOW) n asks a c in
     let was : IsFreshIn window a.number = fresh-in window asks fresh a left.0 in
     let free = free-parts window a.number was.1 in
     stays-fresh window n held a.number
@@ -163,8 +163,11 @@ end-either [] x a c =
     elim (Contains-either x [] a c) [ inl same ↦ inr same | inr later ↦ absurd (Contains-empty a later) ]
 end-either (y ∷ asks) x a c = elim (Contains-either y (asks ++ x ∷ []) a c) [
   | inl same ↦ inl (subst (λ z. Contains (y ∷ asks) z) same (Contains-head y asks))
-  | inr later ↦ elim (end-either asks x a later) [ inl there ↦ inl
-      (Contains-tail y asks a there) | inr same ↦ inr same ]
+  | inr later ↦ elim (end-either asks x a later) [
+    | inl there ↦ inl
+        (Contains-tail y asks a there)
+    | inr same ↦ inr same
+  ]
 ]
 
 -- what is missing was missing before, or its number is one of those that are missing too
@@ -186,26 +189,28 @@ pub fresh-taken : (window : Contents Held) (n : ℕ) (held : Held) (a : Arrival)
 fresh-taken window n held a now front asks is number_is newest_is fresh =
     subst (AreFresh (after_placing n held window)) (sym asks_are)
     (fresh-all (after_placing n held window) after each) where
-  after : List Ask
-  after =
-      with_all_missing now (gap_of window.newest n) (left_after front (newest_with window.newest n - WINDOW) n asks)
+      after : List Ask
+      after =
+          with_all_missing now (gap_of window.newest n)
+          (left_after front (newest_with window.newest n - WINDOW) n asks)
 
-  asks_are : asks_taken now a front asks ≡ with_all_missing now (gap_of window.newest n)
-      (left_after front (newest_with window.newest n - WINDOW) n asks)
-  asks_are = ap (λ (o : Option ℕ).
-      with_all_missing now (gap_of o a.number) (left_after front (newest_with o a.number - WINDOW) a.number asks))
-      newest_is
-      ∙ ap (λ (k : ℕ). with_all_missing now (gap_of window.newest k)
-      (left_after front (newest_with window.newest k - WINDOW) k asks)) number_is
+      asks_are : asks_taken now a front asks ≡ with_all_missing now (gap_of window.newest n)
+          (left_after front (newest_with window.newest n - WINDOW) n asks)
+      asks_are = ap (λ (o : Option ℕ).
+          with_all_missing now (gap_of o a.number) (left_after front (newest_with o a.number - WINDOW) a.number asks))
+          newest_is
+          ∙ ap (λ (k : ℕ). with_all_missing now (gap_of window.newest k)
+          (left_after front (newest_with window.newest k - WINDOW) k asks)) number_is
 
-  each : (ask : Ask) → Contains
-      (with_all_missing now (gap_of window.newest n) (left_after front (newest_with window.newest n - WINDOW) n asks))
-      ask → IsFreshIn (after_placing n held window) ask.number
-  each ask c = elim (missing-either now (gap_of window.newest n)
-      (left_after front (newest_with window.newest n - WINDOW) n asks) ask c) [
-    | inl left ↦ left-fresh window n held front asks ask fresh left
-    | inr gap ↦ gap-fresh window n held ask.number is gap
-  ]
+      each : (ask : Ask) → Contains
+          (with_all_missing now (gap_of window.newest n)
+          (left_after front (newest_with window.newest n - WINDOW) n asks))
+          ask → IsFreshIn (after_placing n held window) ask.number
+      each ask c = elim (missing-either now (gap_of window.newest n)
+          (left_after front (newest_with window.newest n - WINDOW) n asks) ask c) [
+            | inl left ↦ left-fresh window n held front asks ask fresh left
+            | inr gap ↦ gap-fresh window n held ask.number is gap
+          ]
 
 -- a fresh number stays fresh if another is given up
 given-up-fresh : (window : Contents Held) (n k : ℕ) → k ≢ n → IsFreshIn window k →
@@ -214,7 +219,7 @@ given-up-fresh window n k other fresh =
     let free = free-parts window k fresh.1 in (
       fresh.0,
       fresh-by (is_too_old window.newest k) (is_dead k (with_number n window.dead))
-      (is_available k window.packets) free.0
+          (is_available k window.packets) free.0
           (among-with n k window.dead ∙ ap (λ b. b || is_among window.dead k) (ne_eqb k n other) ∙ free.1) free.2,
     )
 
@@ -242,7 +247,7 @@ can-give-up-all (n ∷ ns) window rise each =
       fresh-within window.newest n first.0 (free-parts window n first.1).0,
       first.1,
       can-give-up-all ns (after_giving_up n window) rise.1
-      (λ k c. given-up-fresh window n k (above k c) (each k (Contains-tail n ns k c))),
+          (λ k c. given-up-fresh window n k (above k c) (each k (Contains-tail n ns k c))),
     ) where
       above : (k : ℕ) → Contains ns k → k ≢ n
       above k c same = let less : n < k = all-in (λ m. n < m) ns k rise.0 c in omega (arith, less, same)
@@ -264,7 +269,7 @@ number-from : (test : Ask → Bool) (asks : List Ask) (k : ℕ) → Contains (nu
     IsNumberOf test asks k
 number-from test asks k c =
     let p : (a : Ask) × Contains (filter test asks) a × (a.number ≡ k) =
-        map-from (λ (ask : Ask). ask.number) (filter test asks) k c in
+    map-from (λ (ask : Ask). ask.number) (filter test asks) k c in
     let q : Contains asks p.0 × (test p.0 ≡ true) = filter-from test asks p.0 p.1 in
     record { ask = p.0; among = q.0; passes = q.1; number_is = p.2 }
 
@@ -274,10 +279,10 @@ pub can-give-up : (window : Contents Held) (now interval : ℕ) (asks : List Ask
 can-give-up window now interval asks is fresh =
     can-give-up-all (given_up_numbers now interval asks) window
     (numbers-rise (is_given_up now interval) asks is) each where
-  each : (k : ℕ) → Contains (given_up_numbers now interval asks) k → IsFreshIn window k
-  each k c =
-      let p : IsNumberOf (is_given_up now interval) asks k = number-from (is_given_up now interval) asks k c in
-      subst (IsFreshIn window) p.number_is (fresh-in window asks fresh p.ask p.among)
+      each : (k : ℕ) → Contains (given_up_numbers now interval asks) k → IsFreshIn window k
+      each k c =
+          let p : IsNumberOf (is_given_up now interval) asks k = number-from (is_given_up now interval) asks k c in
+          subst (IsFreshIn window) p.number_is (fresh-in window asks fresh p.ask p.among)
 
 -- a tick leaves an ask its number
 number-after : (now interval : ℕ) (ask : Ask) → (ask_after now interval ask).number ≡ ask.number
@@ -293,29 +298,29 @@ pub fresh-ticked : (window : Contents Held) (now interval : ℕ) (asks : List As
     (asks_left now interval asks)
 fresh-ticked window now interval asks is fresh =
     fresh-all (given_up_all (given_up_numbers now interval asks) window) (asks_left now interval asks) each where
-  -- a number that is left isn't given up
-  apart : (a : Ask) → Contains asks a → not (is_given_up now interval a) ≡ true →
-      Contains (given_up_numbers now interval asks) a.number → ⊥
-  apart a there left c =
-      let p : IsNumberOf (is_given_up now interval) asks a.number =
+      -- a number that is left isn't given up
+      apart : (a : Ask) → Contains asks a → not (is_given_up now interval a) ≡ true →
+          Contains (given_up_numbers now interval asks) a.number → ⊥
+      apart a there left c =
+          let p : IsNumberOf (is_given_up now interval) asks a.number =
           number-from (is_given_up now interval) asks a.number c in
-      let same : p.ask ≡ a =
+          let same : p.ask ≡ a =
           one-with (λ (ask : Ask). ask.number) asks p.ask a (asks-rise asks is.rise) p.among there p.number_is in
-      true≢false (sym p.passes ∙ ap (is_given_up now interval) same ∙ not-true (is_given_up now interval a) left)
+          true≢false (sym p.passes ∙ ap (is_given_up now interval) same ∙ not-true (is_given_up now interval a) left)
 
-  each : (b : Ask) → Contains (asks_left now interval asks) b →
-      IsFreshIn (given_up_all (given_up_numbers now interval asks) window) b.number
-  each b c =
-      let p : (a : Ask) × Contains (filter (λ ask. not (is_given_up now interval ask)) asks) a
+      each : (b : Ask) → Contains (asks_left now interval asks) b →
+          IsFreshIn (given_up_all (given_up_numbers now interval asks) window) b.number
+      each b c =
+          let p : (a : Ask) × Contains (filter (λ ask. not (is_given_up now interval ask)) asks) a
           × (ask_after now interval a ≡ b) =
           map-from (ask_after now interval) (filter (λ ask. not (is_given_up now interval ask)) asks) b c in
-      let q : Contains asks p.0 × (not (is_given_up now interval p.0) ≡ true) =
+          let q : Contains asks p.0 × (not (is_given_up now interval p.0) ≡ true) =
           filter-from (λ ask. not (is_given_up now interval ask)) asks p.0 p.1 in
-      let number_is : p.0.number ≡ b.number =
+          let number_is : p.0.number ≡ b.number =
           sym (number-after now interval p.0) ∙ ap (λ (ask : Ask). ask.number) p.2 in
-      subst (IsFreshIn (given_up_all (given_up_numbers now interval asks) window)) number_is
-      (given-up-all-fresh (given_up_numbers now interval asks) window p.0.number (apart p.0 q.0 q.1)
-      (fresh-in window asks fresh p.0 q.0))
+          subst (IsFreshIn (given_up_all (given_up_numbers now interval asks) window)) number_is
+          (given-up-all-fresh (given_up_numbers now interval asks) window p.0.number (apart p.0 q.0 q.1)
+          (fresh-in window asks fresh p.0 q.0))
 
 -- numbers in their order, and how they compare
 less-from : (a b : ℕ) → nat_cmp a b ≡ Less → a < b
@@ -330,21 +335,26 @@ less-to a b h = grind (arith, common_steps)
 sorted-from : (ns : List ℕ) → Rises (λ (m : ℕ). m) ns → IsStrictlySortedBy nat_cmp ns
 unfolding IsStrictlySortedBy
 sorted-from [] rise = tt
-sorted-from (n ∷ ns) rise =
-    (all-of (λ m. nat_cmp n m ≡ Less) ns (λ m c. less-to n m (all-in (λ m. n < m) ns m rise.0 c)),
-    sorted-from ns rise.1)
+sorted-from (n ∷ ns) rise = (
+  all-of (λ m. nat_cmp n m ≡ Less) ns (λ m c. less-to n m (all-in (λ m. n < m) ns m rise.0 c)),
+  sorted-from ns rise.1,
+)
 
 rise-from : (ns : List ℕ) → IsStrictlySortedBy nat_cmp ns → Rises (λ (m : ℕ). m) ns
 unfolding IsStrictlySortedBy
 rise-from [] sorted = tt
-rise-from (n ∷ ns) sorted =
-    (all-of (λ m. n < m) ns (λ m c. less-from n m (all-in (λ m. nat_cmp n m ≡ Less) ns m sorted.0 c)),
-    rise-from ns sorted.1)
+rise-from (n ∷ ns) sorted = (
+  all-of (λ m. n < m) ns (λ m c. less-from n m (all-in (λ m. nat_cmp n m ≡ Less) ns m sorted.0 c)),
+  rise-from ns sorted.1,
+)
 
 -- a number is the one that was put among others, or one of them
 with-either : (n m : ℕ) (ks : List ℕ) → is_dead m (with_number n ks) ≡ true → (m ≡ n) ⊎ (is_dead m ks ≡ true)
-with-either n m ks is = elim (or_cases (m == n) (is_among ks m) (sym (among-with n m ks) ∙ is)) [ inl same ↦ inl
-    (eqb-true m n same) | inr there ↦ inr there ]
+with-either n m ks is = elim (or_cases (m == n) (is_among ks m) (sym (among-with n m ks) ∙ is)) [
+  | inl same ↦ inl
+      (eqb-true m n same)
+  | inr there ↦ inr there
+]
 
 -- numbers rise with one more in its place
 with-rises : (n : ℕ) (ks : List ℕ) → Rises (λ (m : ℕ). m) ks → Rises (λ (m : ℕ). m) (with_number n ks)
@@ -403,11 +413,11 @@ near-of ns rise near = record {
 pub near-gap : (newest : Option ℕ) (n : ℕ) → AreNear (gap_of newest n)
 near-gap newest n = near-of (gap_of newest n)
     (below-rises (gap_from newest (newest_with newest n)) (newest_with newest n)) close where
-  close : (a b : ℕ) → Contains (gap_of newest n) a → Contains (gap_of newest n) b → b ≤ a + NACK_SPAN
-  close a b c d =
-      let low : newest_with newest n < a + WINDOW = (gap-in newest n a c).young in
-      let high : b < newest_with newest n = (gap-in newest n b d).below in
-      omega (arith, low, high)
+      close : (a b : ℕ) → Contains (gap_of newest n) a → Contains (gap_of newest n) b → b ≤ a + NACK_SPAN
+      close a b c d =
+          let low : newest_with newest n < a + WINDOW = (gap-in newest n a c).young in
+          let high : b < newest_with newest n = (gap-in newest n b d).below in
+          omega (arith, low, high)
 
 -- what a test says of each
 list_all-in : {X : Type 0} (test : X → Bool) (xs : List X) (x : X) → list_all test xs ≡ true → Contains xs x →
@@ -415,8 +425,11 @@ list_all-in : {X : Type 0} (test : X → Bool) (xs : List X) (x : X) → list_al
 list_all-in test [] x all c = absurd (Contains-empty x c)
 list_all-in test (y ∷ ys) x all c =
     let both : (test y ≡ true) × (list_all test ys ≡ true) = and_parts (test y) (list_all test ys) all in
-    elim (Contains-either y ys x c) [ inl same ↦ ap test (sym same)
-    ∙ both.0 | inr later ↦ list_all-in test ys x both.1 later ]
+    elim (Contains-either y ys x c) [
+      | inl same ↦ ap test (sym same)
+          ∙ both.0
+      | inr later ↦ list_all-in test ys x both.1 later
+    ]
 
 -- a number near the first of asks that rise is near each
 near-each : (n : ℕ) (asks : List Ask) (a : Ask) → Rises (λ (ask : Ask). ask.number) asks → is_near n asks ≡ true →
@@ -434,12 +447,13 @@ near-each n (first ∷ asks) a rise near c =
 pub near-asked : (now interval : ℕ) (asks : List Ask) → IsAsks asks → AreNear (asked_numbers now interval asks)
 near-asked now interval asks is =
     near-of (asked_numbers now interval asks) (numbers-rise (is_asked now interval) asks is) close where
-  close : (a b : ℕ) → Contains (asked_numbers now interval asks) a → Contains (asked_numbers now interval asks) b →
-      b ≤ a + NACK_SPAN
-  close a b c d =
-      let p : IsNumberOf (is_asked now interval) asks a = number-from (is_asked now interval) asks a c in
-      let q : IsNumberOf (is_asked now interval) asks b = number-from (is_asked now interval) asks b d in
-      let near : q.ask.number ≤ p.ask.number + NACK_SPAN =
+      close : (a b : ℕ) → Contains (asked_numbers now interval asks) a →
+          Contains (asked_numbers now interval asks) b →
+          b ≤ a + NACK_SPAN
+      close a b c d =
+          let p : IsNumberOf (is_asked now interval) asks a = number-from (is_asked now interval) asks a c in
+          let q : IsNumberOf (is_asked now interval) asks b = number-from (is_asked now interval) asks b d in
+          let near : q.ask.number ≤ p.ask.number + NACK_SPAN =
           near-each q.ask.number asks p.ask (asks-rise asks is.rise)
           (list_all-in (λ (ask : Ask). is_near ask.number asks) asks q.ask is.near q.among) p.among in
-      omega (arith, near, p.number_is, q.number_is)
+          omega (arith, near, p.number_is, q.number_is)

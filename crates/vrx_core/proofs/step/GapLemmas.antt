@@ -1,7 +1,7 @@
 -- What is missing once a packet was taken: the numbers left are below the gap, and near its end.
-use Rattle.std.proofs.Common.{◌≡◌, ℕ, ◌+◌, ◌-◌, ◌<◌, ◌≤◌, Bool, true, List, [], ◌∷◌, Contains, Option, Some, None, IsSomeAnd, refl, sym, ◌∙◌, arith}
+use Rattle.std.proofs.Common.{◌≡◌, ℕ, ◌+◌, ◌-◌, ◌<◌, Bool, true, List, [], ◌∷◌, Contains, Option, Some, None, IsSomeAnd, refl, arith}
 use Rattle.std.specs.Prelude.{not, ◌==◌, nat_lt}
-use Rattle.std.specs.List.{All, filter, list_all}
+use Rattle.std.specs.List.{list_all}
 use Rattle.std.proofs.lemmas.Bool.{and_from, lt-ltb, ltb-true}
 use Rattle.std.proofs.lemmas.List.Elements.{recursion_from_All}
 use Rattle.vrx_num.specs.declared.limits.TheConstants.{WINDOW}
@@ -32,7 +32,7 @@ pub left-from : (front : Option ℕ) (gone n : ℕ) (asks : List Ask) (a : Ask) 
     Contains (left_after front gone n asks) a → Contains asks a × (gone < a.number) × (not (a.number == n) ≡ true)
 left-from front gone n asks a c =
     let outer = filter-from (λ ask. nat_lt gone ask.number) (without n asks) a
-        (beyond-from front (beyond gone (without n asks)) a c) in
+    (beyond-from front (beyond gone (without n asks)) a c) in
     let inner = filter-from (λ ask. not (ask.number == n)) asks a outer.0 in
     (inner.0, ltb-true gone a.number outer.1, inner.1)
 
@@ -58,7 +58,7 @@ pub left-near : (front : Option ℕ) (gone n after : ℕ) (asks : List Ask) → 
     is_near (after - 1) (left_after front gone n asks) ≡ true
 left-near front gone n after asks gone_is =
     by (left_after front gone n asks) (λ a c. (left-from front gone n asks a c).1) where
-  by : (xs : List Ask) → ((a : Ask) → Contains xs a → gone < a.number) → is_near (after - 1) xs ≡ true
-  by [] each = refl
-  by (a ∷ xs) each = let less : gone < a.number =
-      each a (Contains-head a xs) in lt-ltb (after - 1 + 1) (a.number + WINDOW) (omega (arith, less, gone_is))
+      by : (xs : List Ask) → ((a : Ask) → Contains xs a → gone < a.number) → is_near (after - 1) xs ≡ true
+      by [] each = refl
+      by (a ∷ xs) each = let less : gone < a.number =
+          each a (Contains-head a xs) in lt-ltb (after - 1 + 1) (a.number + WINDOW) (omega (arith, less, gone_is))

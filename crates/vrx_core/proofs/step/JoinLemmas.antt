@@ -90,15 +90,15 @@ module _ (joining : Joining) where
     either : (r : Result Join JoinFault) → joining.step state part ≡ r → Joins state part parts out octets
     either (Ok next) steps =
         let front : with_octets out (with_octets (joining.adds state part) (join_from joining parts next))
-            ≡ Ok octets = sym (ap (λ r.
-            with_octets out (and_then r (λ s. with_octets (joining.adds state part) (join_from joining parts s))))
-            steps) ∙ is in
+        ≡ Ok octets = sym (ap (λ r.
+        with_octets out (and_then r (λ s. with_octets (joining.adds state part) (join_from joining parts s))))
+        steps) ∙ is in
         let rest : with_octets (out ++ joining.adds state part) (join_from joining parts next) ≡ Ok octets =
-            sym (front-front out (joining.adds state part) (join_from joining parts next)) ∙ front in
+        sym (front-front out (joining.adds state part) (join_from joining parts next)) ∙ front in
         let value : HasValue (join_from joining parts next) (out ++ joining.adds state part) octets =
-            has_value (join_from joining parts next) (out ++ joining.adds state part) octets rest in
+        has_value (join_from joining parts next) (out ++ joining.adds state part) octets rest in
         let long : length (out ++ joining.adds state part) ≡ length out + length (joining.adds state part) =
-            length-append out (joining.adds state part) in
+        length-append out (joining.adds state part) in
         let size : length (out ++ joining.adds state part) + length value.rest ≡ length octets = value.size in
         record { next = next; steps = steps; rest = rest; room = omega arith }
     either (Err fault) steps =
@@ -165,10 +165,10 @@ pub all-join_from : (joining : Joining) (codec : Meaning) (packets : Packets) (f
     → join_of codec packets first last ≡ Ok out
 all-join_from joining codec packets first last n count state out size law sized none is =
     let all : (octets : List ℕ) × (join_of codec packets first last ≡ Ok octets) × (length octets ≡ size) =
-        octets-of (join_of codec packets first last) size sized in
+    octets-of (join_of codec packets first last) size sized in
     let left : with_octets out (end_octets (joining.end state)) ≡ Ok all.0 =
-        sym (ap (λ ps. with_octets out (join_from joining ps state)) (parts-none codec packets n count none)) ∙ is
-        ∙ law (parts_from codec packets first (last + 1 - first)) ∙ all.1 in
+    sym (ap (λ ps. with_octets out (join_from joining ps state)) (parts-none codec packets n count none)) ∙ is
+    ∙ law (parts_from codec packets first (last + 1 - first)) ∙ all.1 in
     all.1 ∙ end_octets-all (joining.end state) out all.0 left
 
 -- the part under a number joins, and so do those after it
@@ -183,7 +183,7 @@ pub join-here : (joining : Joining) (codec : Meaning) (packets : Packets) (first
     × Joins joining state part (parts_from codec packets (n + 1) more) out octets
 join-here joining codec packets first last n count more state part out size law sized part_is one is =
     let all : (octets : List ℕ) × (join_of codec packets first last ≡ Ok octets) × (length octets ≡ size) =
-        octets-of (join_of codec packets first last) size sized in (
+    octets-of (join_of codec packets first last) size sized in (
       all.0,
       all.1,
       all.2,

@@ -1,7 +1,6 @@
 -- The greatest number that is given up once a packet is placed.
-use Rattle.std.proofs.Common.{◌≡◌, ◌≢◌, ℕ, zero, suc, ◌+◌, ◌-◌, ◌^◌, ◌<◌, ◌≤◌, ◌⊎◌, max, Bool, true, false, List, [], ◌∷◌, Contains, Option, Some, None, refl, sym, ◌∙◌, ap, subst, arith, inl, inr}
+use Rattle.std.proofs.Common.{◌≡◌, ℕ, zero, suc, ◌+◌, ◌-◌, ◌^◌, ◌<◌, ◌≤◌, max, Bool, true, false, List, [], ◌∷◌, Contains, Option, Some, None, refl, sym, ◌∙◌, ap, subst, arith, inl, inr}
 use Rattle.std.specs.Prelude.{min, not, ◌&&◌}
-use Rattle.std.specs.List.{filter}
 use Rattle.std.proofs.lemmas.Bool.{and_from, and_parts, cases_lt, le-leb, leb-true, false_from_ne_true, true≢false}
 use Rattle.vrx_num.specs.Extended.{greater}
 use Rattle.vrx_num.specs.declared.limits.TheConstants.{WINDOW}
@@ -98,14 +97,14 @@ module _ (window : Contents Held) (front : Option ℕ) (n first newest low high 
   lost-in : (k : ℕ) → Contains (lost_from window front n) k → (low ≤ k) × (k < high) × (is_dead k window.dead ≡ false)
   lost-in k c =
       let f = filter-from (λ m. not (is_passed front m) && not (is_dead m window.dead))
-          (numbers_left window.first window.newest (Some (newest_with window.newest n))) k c in
+      (numbers_left window.first window.newest (Some (newest_with window.newest n))) k c in
       let b = numbers-in (max newest n + 1 - WINDOW - max first (newest + 1 - WINDOW))
-          (max first (newest + 1 - WINDOW)) k (subst (λ ns. Contains ns k) left-is f.0) in
+      (max first (newest + 1 - WINDOW)) k (subst (λ ns. Contains ns k) left-is f.0) in
       let both = and_parts (not (is_passed front k)) (not (is_dead k window.dead)) f.1 in
       let beyond : after_pulled front ≤ k = not-passed front k both.0 in
       let b0 : max first (newest + 1 - WINDOW) ≤ k = b.0 in
       let b1 : k < max first (newest + 1 - WINDOW) + (max newest n + 1 - WINDOW - max first (newest + 1 - WINDOW)) =
-          b.1 in
+      b.1 in
       (grind (arith), grind (arith), false-of-not (is_dead k window.dead) both.1)
 
   lost-of : (k : ℕ) → low ≤ k → k < high → is_dead k window.dead ≡ false → Contains (lost_from window front n) k
@@ -127,13 +126,14 @@ module _ (window : Contents Held) (front : Option ℕ) (n first newest low high 
   lost-found back within dead alive =
       sym (greatest-is (lost_from window front n) (high - 1 - back)
       (lost-of (high - 1 - back) (omega arith) (omega arith) alive) upto) where
-    upto : (k : ℕ) → Contains (lost_from window front n) k → k ≤ high - 1 - back
-    upto k c = let r = lost-in k c in elim (cases_lt (high - 1 - back) k) [
-      | inl above ↦ absurd (true≢false
-          (sym (dead (high - 1 - k) (omega (arith, above, r.1)))
-          ∙ ap (λ m. is_dead m window.dead) (let e : high - 1 - (high - 1 - k) ≡ k = omega (arith, r.1) in e) ∙ r.2))
-      | inr le ↦ le
-    ]
+        upto : (k : ℕ) → Contains (lost_from window front n) k → k ≤ high - 1 - back
+        upto k c = let r = lost-in k c in elim (cases_lt (high - 1 - back) k) [
+          | inl above ↦ absurd (true≢false
+              (sym (dead (high - 1 - k) (omega (arith, above, r.1)))
+              ∙ ap (λ m. is_dead m window.dead) (let e : high - 1 - (high - 1 - k) ≡ k = omega (arith, r.1) in e)
+              ∙ r.2))
+          | inr le ↦ le
+        ]
 
   pub lost-nowhere : (back : ℕ) → high - low ≤ back → AreDeadDown back → None ≡ greatest_of (lost_from window front n)
   lost-nowhere back all dead = sym (greatest-none (lost_from window front n) (λ k c. let r = lost-in k c in

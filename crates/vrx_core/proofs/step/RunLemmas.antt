@@ -48,8 +48,8 @@ media-at : (codec : Meaning) (packets : Packets) (n k : ℕ) (pieces : List Piec
 media-at codec packets n k [] are less = absurd (omega arith)
 media-at codec packets n zero (piece ∷ pieces) are less =
     (are.0.text, subst (λ m. at m packets ≡ Some (Media are.0.text)) here are.0.media) where
-  here : n ≡ n + 0
-  here = omega arith
+      here : n ≡ n + 0
+      here = omega arith
 media-at codec packets n (suc k) (piece ∷ pieces) are less =
     let rest = media-at codec packets (n + 1) k pieces are.1 (omega arith) in
     let next : n + 1 + k ≡ n + suc k = omega arith in
@@ -130,7 +130,7 @@ joinable codec parts told whole is = subst (λ t. IsJoinable codec parts.window.
       let some : is.run.first ≤ is.run.last = is.is_run.not_empty in
       let b = inside is.run.last some (omega arith) in
       let newest : b.0 < 2 ^ 62 =
-          newest-low parts.window.newest b.0 parts.events b.1 whole.kept.few whole.kept.reach in
+      newest-low parts.window.newest b.0 parts.events b.1 whole.kept.few whole.kept.reach in
       omega arith
 
 -- the run that is next can be joined
@@ -155,6 +155,6 @@ pub frame-joined : (codec : Meaning) (parts : Assembly) (told : RunSummary) (byt
     (record { first = told.first; last = told.last; ts = told.ts; key = told.key; bytes = bytes })
 frame-joined codec parts told bytes joins run is told_is =
     let here : join_of codec (packets_of parts) run.first run.last ≡ Ok bytes =
-        subst (λ (t : RunSummary). join_of codec (packets_of parts) t.first t.last ≡ Ok bytes) (sym told_is) joins in
+    subst (λ (t : RunSummary). join_of codec (packets_of parts) t.first t.last ≡ Ok bytes) (sym told_is) joins in
     same-frame told run bytes told_is
     (same_Some bytes run.bytes (ap result_ok (sym here ∙ run-joins codec parts.window.packets _ run is)))

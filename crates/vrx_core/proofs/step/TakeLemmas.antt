@@ -9,7 +9,7 @@ use Rattle.vrx_num.specs.Extended.{greater}
 use Rattle.vrx_num.specs.declared.limits.TheConstants.{HALF_SPACE, MOST_EVENTS, WINDOW}
 use Rattle.vrx_codec.specs.Meaning.{Meaning}
 use Rattle.vrx_codec.specs.declared.run.Run.{Run as RunSummary}
-use Rattle.vrx_window.specs.Content.{Content, content_of, contents, contents_of}
+use Rattle.vrx_window.specs.Content.{Content, contents, contents_of}
 use Rattle.vrx_window.specs.IsWindow.{IsWindow}
 use Rattle.vrx_window.specs.Sound.{place_at}
 use Rattle.vrx_window.specs.Window.{Contents, is_inside, newest_with, after_placing}
@@ -56,9 +56,10 @@ can-all newest front last from (run ∷ more) frames low high can =
     let inside = inside-low newest run.first here.inside in
     let from_low : lowest_of newest ≤ run.first = inside.0 in
     let below : run.first < lowest_of newest + WINDOW = inside.1 in
-    let later : after_pulled last ≤ run.first = beyond-pulled last run.first here.later in
-    ((grind (arith), omega arith, here.fresh),
-    can-all newest front last from more (with_run run frames) low high can.1)
+    let later : after_pulled last ≤ run.first = beyond-pulled last run.first here.later in (
+      (grind (arith), omega arith, here.fresh),
+      can-all newest front last from more (with_run run frames) low high can.1,
+    )
 
 -- the lowest number of the window doesn't go back
 lowest-on : (newest : Option ℕ) (n : ℕ) → lowest_of newest ≤ lowest_of (Some (newest_with newest n))

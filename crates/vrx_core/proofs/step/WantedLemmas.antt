@@ -1,7 +1,6 @@
 -- An engine stands for its history with each event: what it assembles, and what it wants.
-use Rattle.std.proofs.Common.{◌≡◌, ℕ, ◌+◌, ◌<◌, ◌≤◌, max, Bool, true, false, not, ◌&&◌, ◌||◌, List, [], ◌∷◌, map, Contains, Option, Some, None, is_some, IfSome, Result, Ok, Err, refl, sym, subst, ap, ◌∙◌, arith}
-use Rattle.std.specs.Prelude.{IsErr}
-use Rattle.std.specs.List.{filter, list_any}
+use Rattle.std.proofs.Common.{◌≡◌, ℕ, max, Bool, true, not, ◌&&◌, ◌||◌, List, [], ◌∷◌, map, Option, Some, None, is_some, Result, Ok, Err, refl, sym, subst, ap, ◌∙◌}
+use Rattle.std.specs.List.{filter}
 use Rattle.std.specs.Option.{option_map}
 use Rattle.vrx_asks.specs.Asks.{asked_numbers, given_up_numbers}
 use Rattle.vrx_asks.specs.IsAsks.{IsAsks}
@@ -10,14 +9,13 @@ use Rattle.vrx_window.specs.Content.{Content, contents_of}
 use Rattle.vrx_window.specs.Window.{Contents, is_dead, newest_with}
 use Rattle.vrx_frames.specs.IsRun.{RunsApart, RunsAre, RunsRise}
 use Rattle.vrx_frames.specs.Run.{Run, is_passed, summary_of}
-use Rattle.vrx_codec.specs.declared.run.Run.{Run as RunSummary}
 use Rattle.vrx_core.specs.machine.GivenUp.{all_lost, numbers_left}
 use Rattle.vrx_core.specs.machine.KeyRequest.{completes_key}
-use Rattle.vrx_core.specs.machine.Machine.{Reply, Snapshot, ToDatagram, ToTick, after_datagram, after_pull, after_tick, frame_of, latest, nack_for, next, next_run, opening, pli_for, reply, snapshots, what_of}
+use Rattle.vrx_core.specs.machine.Machine.{Snapshot, ToDatagram, ToTick, after_datagram, after_pull, after_tick, frame_of, latest, nack_for, next, next_run, opening, pli_for, reply, snapshots}
 use Rattle.vrx_core.specs.machine.Snapshot.{moved}
 use Rattle.vrx_core.specs.machine.Verdict.{verdict}
 use Rattle.vrx_core.specs.relation.Order.{greatest_of}
-use Rattle.vrx_core.specs.relation.StandsFor.{Assembly, IsAssembled, EngineParts, StandsFor, StandsIn, Wanted, WantsIn, assembly_in, parts_of}
+use Rattle.vrx_core.specs.relation.StandsFor.{Assembly, IsAssembled, StandsFor, StandsIn, Wanted, WantsIn, parts_of}
 use Rattle.vrx_core.specs.inside.Fields.{ComesOf, IsArrival, IsHandedOut, IsHandled, IsTakenWith, IsWhole}
 use Rattle.vrx_core.specs.inside.Kept.{key_numbers}
 use Rattle.vrx_core.specs.inside.Step.{after_counting}
@@ -220,7 +218,9 @@ module _ (are : RunsAre) (rise : RunsRise) (codec : Meaning) (before after : Ass
         what = datagram-what codec before after moment octets outcome h handled stands.assembled i;
         repaired = none i;
         feedback = record {
-            nack = nack_for (settings-is i) (comes.asked i); pli = pli_for (settings-is i) (comes.key_asked i) };
+          nack = nack_for (settings-is i) (comes.asked i);
+          pli = pli_for (settings-is i) (comes.key_asked i);
+        };
       }))
       ∙ sym (reply-is before.settings codec h (Datagram moment octets))
 
@@ -251,7 +251,7 @@ module _ (are : RunsAre) (rise : RunsRise) (apart : RunsApart) (codec : Meaning)
   pull-stands-for =
       let past : List Snapshot = snapshots before.settings codec h in
       let pull : IsPull codec after past moment frame =
-          pull-is are rise apart codec before after moment frame h handed whole whole' stands.assembled in
+      pull-is are rise apart codec before after moment frame h handed whole whole' stands.assembled in
       record {
         assembled = pull-stands are rise apart codec before after moment frame h handed whole whole' stands.assembled;
         wants = subst (λ t. WantsIn (pulled_with after.front frame wanted) (snapshots t codec (Pull moment ∷ h)))
@@ -264,8 +264,10 @@ module _ (are : RunsAre) (rise : RunsRise) (apart : RunsApart) (codec : Meaning)
 -- a tick, of what it wants before and after
 module _ (are : RunsAre) (codec : Meaning) (before after : Assembly) (wanted : Wanted) (moment : ℕ) (h : List Event)
     (stands : StandsFor codec (parts_of before wanted) h) (sound : IsAsks wanted.asks)
-    (after_is : after ≡ record (after_counting before moment) { window =
-    given_up_all (given_up_numbers (max before.clock moment) before.settings.interval wanted.asks) before.window
+    (after_is : after ≡ record (after_counting before moment) {
+      window =
+          given_up_all (given_up_numbers (max before.clock moment) before.settings.interval wanted.asks)
+          before.window;
     }) where
   abbrev ticks_past : List Snapshot
   ticks_past = snapshots before.settings codec h
@@ -305,12 +307,12 @@ module _ (are : RunsAre) (codec : Meaning) (before after : Assembly) (wanted : W
   wants-ticked = subst (λ w. WantsIn w (after_tick before.settings ticks_past moment ∷ ticks_past))
       (sym (λ i. wanted_ticked (clock-ticked i) before.settings.interval (started-same i) (key-same i) wanted))
       (record {
-    asks = asks-ticked before.settings ticks_past moment wanted.asks stands.wants.asks sound;
-    lost = lost-now;
-    key_pulled = ticked-key_pulled before.settings ticks_past moment wanted falls-now stands.wants;
-    keyed = ticked-keyed before.settings ticks_past moment wanted falls-now stands.wants;
-    key_asked = ticked-key_asked before.settings ticks_past moment wanted falls-now stands.wants lost-now;
-  })
+        asks = asks-ticked before.settings ticks_past moment wanted.asks stands.wants.asks sound;
+        lost = lost-now;
+        key_pulled = ticked-key_pulled before.settings ticks_past moment wanted falls-now stands.wants;
+        keyed = ticked-keyed before.settings ticks_past moment wanted falls-now stands.wants;
+        key_asked = ticked-key_asked before.settings ticks_past moment wanted falls-now stands.wants lost-now;
+      })
 
   pub tick-stands-for : StandsFor codec
       (parts_of after (wanted_ticked (max before.clock moment) before.settings.interval (is_some before.window.newest)

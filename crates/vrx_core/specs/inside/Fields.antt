@@ -26,7 +26,6 @@ use Rattle.vrx_core.specs.declared.assembler.Outcome.{Outcome}
 use Rattle.vrx_core.specs.declared.count.Count.{Count}
 use Rattle.vrx_core.specs.declared.settings.Settings.{Settings}
 use Rattle.vrx_core.specs.declared.original.NotTaken.{NotTaken}
-use Rattle.vrx_core.specs.declared.reply.What.{What}
 use Rattle.vrx_core.specs.declared.reply.Frame.{Frame}
 
 -- the parts that fields stand for

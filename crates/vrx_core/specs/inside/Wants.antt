@@ -1,12 +1,12 @@
 -- What is wanted, event by event: one event over what an engine keeps of the requests.
-use Rattle.std.specs.Prelude.{◌≡◌, ℕ, ◌+◌, ◌-◌, ◌<◌, ◌≤◌, ◌^◌, Bool, true, false, not, ◌&&◌, ◌||◌, nat_lt, max, if◌then◌else◌, List, [], ◌∷◌, length, slice_get, slice_index, Contains, Option, Some, None, IsSomeAnd, is_some}
+use Rattle.std.specs.Prelude.{◌≡◌, ℕ, ◌+◌, ◌-◌, ◌<◌, ◌≤◌, Bool, true, false, not, ◌&&◌, ◌||◌, nat_lt, max, if◌then◌else◌, List, [], ◌∷◌, length, slice_get, slice_index, Option, Some, None, IsSomeAnd}
 use Rattle.std.specs.List.{All, filter}
 use Rattle.std.specs.List.Sorted.{IsStrictlyIncreasing}
-use Rattle.std.specs.Option.{option_map_or, unwrap_or}
+use Rattle.std.specs.Option.{option_map_or}
 use Rattle.vrx_rtcp.specs.declared.types.TheConstants.{NACK_SPAN}
 use Rattle.vrx_num.specs.Extended.{greater}
 use Rattle.vrx_num.specs.declared.limits.TheConstants.{WINDOW}
-use Rattle.vrx_asks.specs.Asks.{are_below, asked_numbers, asks_left, beyond, given_up_numbers, with_missing, without}
+use Rattle.vrx_asks.specs.Asks.{asks_left, beyond, given_up_numbers, with_missing, without}
 use Rattle.vrx_asks.specs.KeyAsk.{is_outstanding}
 use Rattle.vrx_asks.specs.declared.ask.Ask.{Ask}
 use Rattle.vrx_window.specs.Window.{Contents, after_giving_up, is_dead, is_inside, newest_with, would_of}

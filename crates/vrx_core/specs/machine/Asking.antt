@@ -1,14 +1,13 @@
 -- What holds of requests, of numbers given up, and of requests for a keyframe (RFC 4585 6.2.1, 6.3.1).
-use Rattle.std.specs.Prelude.{◌≡◌, ◌≢◌, ◌↔◌, ◌⊎◌, ℕ, ◌+◌, ◌<◌, ◌≤◌, true, false, List, [], ◌∷◌, ◌++◌, length, Contains, Some, None, Ok, Any, All, IsSomeAnd}
+use Rattle.std.specs.Prelude.{◌≡◌, ◌≢◌, ◌↔◌, ◌⊎◌, ℕ, ◌+◌, ◌<◌, ◌≤◌, true, false, List, [], ◌∷◌, ◌++◌, length, Contains, Ok, Any, All, IsSomeAnd}
 use Rattle.vrx_num.specs.declared.limits.TheConstants.{KEY_REQUEST_WAIT, MOST_REQUESTS}
 use Rattle.vrx_codec.specs.Meaning.{Meaning}
-use Rattle.vrx_asks.specs.KeyAsk.{is_outstanding}
 use Rattle.vrx_window.specs.Content.{Content}
 use Rattle.vrx_window.specs.Window.{is_available}
 use Rattle.vrx_frames.specs.Run.{is_passed}
 use Rattle.vrx_core.specs.machine.Available.{IsInWindow}
 use Rattle.vrx_core.specs.machine.GivenUp.{is_lost}
-use Rattle.vrx_core.specs.machine.KeyRequest.{is_answered, open_request, still_open}
+use Rattle.vrx_core.specs.machine.KeyRequest.{is_answered}
 use Rattle.vrx_core.specs.machine.Machine.{Snapshot, latest, snapshots}
 use Rattle.vrx_core.specs.machine.Request.{missing, requests}
 use Rattle.vrx_core.specs.machine.Verdict.{verdict}

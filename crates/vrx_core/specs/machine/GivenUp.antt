@@ -1,9 +1,7 @@
 -- The numbers that are given up: the receiver doesn't wait for their packets any more.
-use Rattle.std.specs.Prelude.{ℕ, ◌+◌, ◌-◌, Bool, not, ◌&&◌, max, List, [], Option, Some, None}
+use Rattle.std.specs.Prelude.{ℕ, ◌+◌, ◌-◌, Bool, not, ◌&&◌, max, List, [], Option, Some}
 use Rattle.std.specs.List.{filter, list_any, flat_map}
 use Rattle.vrx_num.specs.declared.limits.TheConstants.{WINDOW}
-use Rattle.vrx_window.specs.Content.{Content}
-use Rattle.vrx_window.specs.Window.{Contents}
 use Rattle.vrx_frames.specs.Completed.{is_among}
 use Rattle.vrx_frames.specs.Run.{is_passed, numbers_from}
 use Rattle.vrx_core.specs.machine.Snapshot.{Snapshot, latest}

@@ -7,7 +7,7 @@ use Rattle.vrx_rtcp.specs.declared.feedback.Feedback.{Feedback}
 use Rattle.vrx_codec.specs.Meaning.{Meaning}
 use Rattle.vrx_window.specs.Content.{Content}
 use Rattle.vrx_window.specs.Content as contents
-use Rattle.vrx_window.specs.Window.{Contents, after_placing, with_number}
+use Rattle.vrx_window.specs.Window.{after_placing, with_number}
 use Rattle.vrx_frames.specs.Run.{Run}
 use Rattle.vrx_frames.specs.Front.{front_after}
 pub use Rattle.vrx_core.specs.machine.Snapshot.{Snapshot, opening, latest, times, last_pulled}
@@ -42,7 +42,9 @@ after_settling codec past s =
     let last : Option ℕ = last_pulled s.pulled in
     let front : Option ℕ = front_after s.front last s.window.packets in
     record s {
-        front = front; standing = standing_of codec (s.window.packets ∷ times past) front last s.window.packets }
+      front = front;
+      standing = standing_of codec (s.window.packets ∷ times past) front last s.window.packets;
+    }
 
 -- What a datagram leaves. One that isn't taken moves the clock only. One that is taken is placed; it gives up the
 -- numbers that leave the window, and asks for those that are missing now and weren't asked for; and it asks for a
@@ -52,7 +54,10 @@ with_requests past s =
     let lost : List ℕ = lost_by_packet past s in
     with_key_request (list_any (λ n. not (is_answered s n)) lost) past
     (record s {
-    lost = lost; asked = first_requests (s ∷ past); key_completed = completes_key (latest past).standing s.standing })
+      lost = lost;
+      asked = first_requests (s ∷ past);
+      key_completed = completes_key (latest past).standing s.standing;
+    })
 
 abbrev pub after_datagram : Meaning → List Snapshot → ℕ → Result (ℕ × Content) NotTaken → Snapshot
 after_datagram codec past moment (Err left) = moved (latest past) moment
@@ -71,8 +76,10 @@ after_tick settings past moment =
     let s : Snapshot = moved (latest past) moment in
     let lost : List ℕ = lost_by_tick settings.interval s.now past in
     let after : Snapshot = record s {
-        lost = lost; asked = repeated_requests settings.interval s.now past; window =
-        record s.window { dead = with_numbers lost s.window.dead } } in
+      lost = lost;
+      asked = repeated_requests settings.interval s.now past;
+      window = record s.window { dead = with_numbers lost s.window.dead };
+    } in
     with_key_request (is_needed (after ∷ past)) past after
 
 -- what a pull leaves that gives this run, or none
@@ -150,8 +157,10 @@ IfFrame (pulls.Frame frame) P = P frame
 abbrev pub reply_between : Settings → Meaning → List Snapshot → Snapshot → Event → Reply
 reply_between settings codec past s (Datagram moment octets) =
     ToDatagram (record {
-    what = what_of (verdict settings codec (latest past).window octets); repaired = repaired_by past s; feedback =
-    feedback_of settings s })
+      what = what_of (verdict settings codec (latest past).window octets);
+      repaired = repaired_by past s;
+      feedback = feedback_of settings s;
+    })
 reply_between settings codec past s (Tick moment) = ToTick (feedback_of settings s)
 reply_between settings codec past s (Pull moment) = ToPull (pulled_of (next_run (latest past)))
 

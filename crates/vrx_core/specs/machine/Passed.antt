@@ -41,6 +41,6 @@ IsReached before last packets n = (n ≤ greater_of before last) ⊎ IsOverNoMed
 abbrev pub PassedExactlyHolds : Type 0
 PassedExactlyHolds = (settings : Settings) (codec : Meaning) (h : List Event) (e : Event) (n : ℕ)
     → let before : Snapshot = latest (snapshots settings codec h) in let after : Snapshot =
-        latest (snapshots settings codec (e ∷ h)) in
+    latest (snapshots settings codec (e ∷ h)) in
     IfSome (last_pulled after.pulled)
     (λ last. (is_passed after.front n ≡ true) ↔ IsReached before.front last after.window.packets n)

@@ -1,9 +1,8 @@
 -- The numbers that are missing, and which of them an event asks for (generic NACK, RFC 4585 6.2.1).
-use Rattle.std.specs.Prelude.{ℕ, ◌+◌, ◌-◌, Bool, false, not, ◌&&◌, ◌==◌, nat_le, nat_lt, max, List, [], ◌∷◌, map, length, Option, Some, None}
+use Rattle.std.specs.Prelude.{ℕ, ◌+◌, ◌-◌, Bool, false, not, ◌&&◌, ◌==◌, nat_le, nat_lt, max, List, [], ◌∷◌, map, length, Option, Some}
 use Rattle.std.specs.List.{filter}
 use Rattle.vrx_num.specs.declared.limits.TheConstants.{MOST_REQUESTS, WINDOW}
-use Rattle.vrx_window.specs.Content.{Content}
-use Rattle.vrx_window.specs.Window.{Contents, is_available}
+use Rattle.vrx_window.specs.Window.{is_available}
 use Rattle.vrx_frames.specs.Completed.{is_among}
 use Rattle.vrx_frames.specs.Run.{is_passed}
 use Rattle.vrx_core.specs.machine.GivenUp.{is_lost, numbers_below}

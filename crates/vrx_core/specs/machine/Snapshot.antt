@@ -23,8 +23,16 @@ pub record Snapshot : Type 0 where
 -- before the first event
 abbrev pub opening : Snapshot
 opening = record {
-    now = 0; window = nothing; pulled = []; front = None; standing = []; lost = []; asked = []; key_completed =
-    false; key_asked = false }
+  now = 0;
+  window = nothing;
+  pulled = [];
+  front = None;
+  standing = [];
+  lost = [];
+  asked = [];
+  key_completed = false;
+  key_asked = false;
+}
 
 -- the present, of what was left after each event (the newest first, the opening last)
 abbrev pub latest : List Snapshot → Snapshot

@@ -12,7 +12,7 @@ drop-put_mid_rest : (buffer tail : List ℕ) (at : ℕ) → at ≤ length buffer
     drop at (put_mid at (length buffer - at) buffer tail) ≡ tail
 drop-put_mid_rest buffer tail at within len =
     let none : post_of at (length buffer - at) buffer ≡ [] =
-        drop_all _ (drop at buffer) (omega (arith, length-drop at buffer)) in
+    drop_all _ (drop at buffer) (omega (arith, length-drop at buffer)) in
     drop_at (take at buffer) (tail ++ post_of at (length buffer - at) buffer) at (length-take-le at buffer within)
     ∙ rw none (append-nil tail)
 

@@ -1,8 +1,4 @@
-use Rattle.std.proofs.Common.{◌≡◌, ◌-◌, ◌^◌, ◌<◌, max, Some, sym, ◌∙◌, arith}
-use Rattle.std.specs.Prelude.{min}
-use Rattle.std.proofs.Math.Facts.{Fits-lt-pow}
-use Rattle.vrx_num.specs.declared.limits.TheConstants.{WINDOW}
-use Rattle.vrx_core.specs.inside.Fields.{after_pulled}
+use Rattle.std.proofs.Common.{sym, ◌∙◌, arith}
 use Rattle.vrx_core.proofs.step.LostLemmas.{lost-found, lost-nowhere}
 use Rattle.vrx_core.proofs.assembler.greatest_lost.Goals as goal
 

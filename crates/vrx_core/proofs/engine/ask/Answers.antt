@@ -1,4 +1,4 @@
-use Rattle.std.proofs.Common.{◌≡◌, List, ℕ, sym, subst, ◌∙◌}
+use Rattle.std.proofs.Common.{sym, subst, ◌∙◌}
 use Rattle.vrx_core.specs.inside.Wants.{AreNear}
 use Rattle.vrx_core.proofs.step.FreshLemmas.{near-gap}
 use Rattle.vrx_core.proofs.engine.ask.Goals as goal
@@ -6,5 +6,6 @@ use Rattle.vrx_core.proofs.engine.ask.Goals as goal
 pub nack_unless_none-requires : goal.nack_unless_none-requires
 nack_unless_none-requires g c =
     record {
-    near = subst AreNear (sym (c.as_slice.ensures.value ∙ c.taken-asked.ensures.numbers))
-    (near-gap c.in-Some.arrival.newest c.in-Some.arrival.number) }
+      near = subst AreNear (sym (c.as_slice.ensures.value ∙ c.taken-asked.ensures.numbers))
+          (near-gap c.in-Some.arrival.newest c.in-Some.arrival.number);
+    }

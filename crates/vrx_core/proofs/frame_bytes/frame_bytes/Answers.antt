@@ -21,10 +21,10 @@ returns g c = record {
 pub unreachable-requires : goal.unreachable-requires
 unreachable-requires g c =
     let j = join-here g.C.Codec.joining g.C.Codec.meaning
-        (contents c.args.window.now.packets) c.args.run.first c.args.run.last (c.args.run.first + c.loop-k.k)
-        (c.args.run.last + 1 - c.args.run.first - c.loop-k.k)
-        (c.args.run.last + 1 - c.args.run.first - (c.loop-k.k + 1)) c.loop-k.state
-        (view c.part_at-part.result) c.loop-k.out.items c.args.run.octets
+    (contents c.args.window.now.packets) c.args.run.first c.args.run.last (c.args.run.first + c.loop-k.k)
+    (c.args.run.last + 1 - c.args.run.first - c.loop-k.k)
+    (c.args.run.last + 1 - c.args.run.first - (c.loop-k.k + 1)) c.loop-k.state
+    (view c.part_at-part.result) c.loop-k.out.items c.args.run.octets
     g.met.C.Codec.joins c.requires.joinable.octets c.part_at-part.ensures.part
     (omega arith) c.loop-k.invariant.bytes in
     absurd (none-some j.3.next (ap result_ok (sym c.in_default.is ∙ c.step.ensures.steps ∙ j.3.steps)))
@@ -32,14 +32,14 @@ unreachable-requires g c =
 pub append-requires-clause-room : goal.append-requires-clause-room
 append-requires-clause-room g c =
     let j = join-here g.C.Codec.joining g.C.Codec.meaning
-        (contents c.args.window.now.packets) c.args.run.first c.args.run.last (c.args.run.first + c.loop-k.k)
-        (c.args.run.last + 1 - c.args.run.first - c.loop-k.k)
-        (c.args.run.last + 1 - c.args.run.first - (c.loop-k.k + 1)) c.loop-k.state
-        (view c.part_at-part.result) c.loop-k.out.items c.args.run.octets
+    (contents c.args.window.now.packets) c.args.run.first c.args.run.last (c.args.run.first + c.loop-k.k)
+    (c.args.run.last + 1 - c.args.run.first - c.loop-k.k)
+    (c.args.run.last + 1 - c.args.run.first - (c.loop-k.k + 1)) c.loop-k.state
+    (view c.part_at-part.result) c.loop-k.out.items c.args.run.octets
     g.met.C.Codec.joins c.requires.joinable.octets c.part_at-part.ensures.part
     (omega arith) c.loop-k.invariant.bytes in
     let room : length c.loop-k.out.items + length (g.C.Codec.joining.adds c.loop-k.state (view c.part_at-part.result))
-        ≤ length j.0 = j.3.room in
+    ≤ length j.0 = j.3.room in
     let all : length j.0 ≡ c.args.run.octets = j.2 in
     let most : c.args.run.octets ≤ vec_capacity c.loop-k.out = c.loop-k.invariant.room in
     omega (arith, c.loop-k.out.ok)
@@ -50,15 +50,15 @@ loop-k-preserved g c =
     let part = view c.part_at-part.result in
     let packets = contents c.args.window.now.packets in
     let j = join-here g.C.Codec.joining g.C.Codec.meaning
-        (contents c.args.window.now.packets) c.args.run.first c.args.run.last (c.args.run.first + c.loop-k.k)
-        (c.args.run.last + 1 - c.args.run.first - c.loop-k.k)
-        (c.args.run.last + 1 - c.args.run.first - (c.loop-k.k + 1)) c.loop-k.state
-        (view c.part_at-part.result) c.loop-k.out.items c.args.run.octets
+    (contents c.args.window.now.packets) c.args.run.first c.args.run.last (c.args.run.first + c.loop-k.k)
+    (c.args.run.last + 1 - c.args.run.first - c.loop-k.k)
+    (c.args.run.last + 1 - c.args.run.first - (c.loop-k.k + 1)) c.loop-k.state
+    (view c.part_at-part.result) c.loop-k.out.items c.args.run.octets
     g.met.C.Codec.joins c.requires.joinable.octets c.part_at-part.ensures.part
     (omega arith) c.loop-k.invariant.bytes in
     let steps : g.C.Codec.joining.step state part ≡ Ok c.in-Ok.next = sym c.step.ensures.steps ∙ c.in-Ok.is in
     let rest : ℕ → List Part =
-        λ n. parts_from g.C.Codec.meaning packets n (c.args.run.last + 1 - c.args.run.first - (c.loop-k.k + 1)) in
+    λ n. parts_from g.C.Codec.meaning packets n (c.args.run.last + 1 - c.args.run.first - (c.loop-k.k + 1)) in
     let next : c.args.run.first + (c.loop-k.k + 1) ≡ c.args.run.first + c.loop-k.k + 1 = omega arith in
     record {
       bytes = ap (λ n. with_octets c.append.new.out.items (join_from g.C.Codec.joining (rest n) c.in-Ok.next)) next

@@ -10,8 +10,8 @@ pub part_of-requires : goal.part_of-requires
 part_of-requires g c =
     let here = sym c.in-Some-Media.ensures.held ∙ ap Some c.in-Some-Media.field-0-is in
     let s = says-soundly g.C.Codec.meaning c.args.window.now.packets c.args.n c.in-Some-Media.text
-        c.in-Some-Media.field-0-1 c.in-Some-Media.field-0-2 c.in-Some-Media.field-0-3 c.in-Some-Media.field-0-4
-        c.in-Some-Media.field-0-5 c.requires.sound here in
+    c.in-Some-Media.field-0-1 c.in-Some-Media.field-0-2 c.in-Some-Media.field-0-3 c.in-Some-Media.field-0-4
+    c.in-Some-Media.field-0-5 c.requires.sound here in
     ap (λ t. is_some (part_of g.C.Codec.meaning (Media t))) c.as_slice.ensures
     ∙ ap is_some (part_of-text g.C.Codec.meaning c.in-Some-Media.text s.packet s.part s.reads s.part_reads)
 
@@ -27,8 +27,8 @@ pub returns-clause-body : goal.returns-clause-body
 returns-clause-body g c =
     let here = sym c.in-Some-Media.ensures.held ∙ ap Some c.in-Some-Media.field-0-is in
     let s = says-soundly g.C.Codec.meaning c.args.window.now.packets c.args.n c.in-Some-Media.text
-        c.in-Some-Media.field-0-1 c.in-Some-Media.field-0-2 c.in-Some-Media.field-0-3 c.in-Some-Media.field-0-4
-        c.in-Some-Media.field-0-5 c.requires.sound here in
+    c.in-Some-Media.field-0-1 c.in-Some-Media.field-0-2 c.in-Some-Media.field-0-3 c.in-Some-Media.field-0-4
+    c.in-Some-Media.field-0-5 c.requires.sound here in
     let few : length c.in-Some-Media.text ≤ MOST_OCTETS = s.size in
     let size : length c.as_slice.result.now ≡ length c.in-Some-Media.text = ap length c.as_slice.ensures in
     let within : length c.part_of.result.body.now ≤ length c.as_slice.result.now = c.part_of.ensures.body in

@@ -2,7 +2,7 @@ use Rattle.std.proofs.Common.{◌+◌, ◌-◌, ◌++◌, ◌∙◌, ap, arith}
 use Rattle.vrx_asks.specs.Asks.{are_below, is_near}
 use Rattle.vrx_core.specs.inside.Wants.{with_all_missing}
 use Rattle.vrx_core.specs.machine.GivenUp.{numbers_below}
-use Rattle.vrx_core.proofs.step.NoticeLemmas.{below-end, below-more, near-less, near-more, noticed-asks, noticed-numbers}
+use Rattle.vrx_core.proofs.step.NoticeLemmas.{below-more, near-more, noticed-asks, noticed-numbers}
 use Rattle.vrx_core.proofs.requests.notice.Goals as goal
 
 pub loop-n-preserved : goal.loop-n-preserved

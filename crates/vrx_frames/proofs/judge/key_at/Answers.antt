@@ -9,8 +9,8 @@ pub returns : goal.returns
 returns g c =
     let here = sym c.in-Some-Media.ensures.held ∙ ap Some c.in-Some-Media.field-0-is in
     let s = says-soundly g.C.Codec.meaning c.args.window.now.packets c.args.n c.in-Some-Media.field-0-0
-        c.in-Some-Media.field-0-1 c.in-Some-Media.field-0-2 c.in-Some-Media.field-0-3 c.in-Some-Media.key
-        c.in-Some-Media.field-0-5 c.requires.sound here in
+    c.in-Some-Media.field-0-1 c.in-Some-Media.field-0-2 c.in-Some-Media.field-0-3 c.in-Some-Media.key
+    c.in-Some-Media.field-0-5 c.requires.sound here in
     record {
       key = ap (option_map (λ (p : Part). p.key))
           (part_at-text g.C.Codec.meaning c.args.window.now.packets c.args.n

@@ -14,7 +14,7 @@ returns-in-Err g c =
     let part = view c.part_at-part.result in
     let rest = parts_from g.C.Codec.meaning packets (n + 1) (c.args.count - (c.loop-k.k + 1)) in
     let parts = parts-next g.C.Codec.meaning packets n (c.args.count - c.loop-k.k)
-        (c.args.count - (c.loop-k.k + 1)) part c.part_at-part.ensures.part (omega arith) in
+    (c.args.count - (c.loop-k.k + 1)) part c.part_at-part.ensures.part (omega arith) in
     let fails : g.C.Codec.joining.step c.loop-k.state part ≡ Err c.in-Err.field-0 = sym c.in-Err.ensures.steps in
     sym (ap result_ok (sum-fails g.C.Codec.joining c.loop-k.state part rest c.in-Err.field-0 fails))
     ∙ sym (ap (λ ps. result_ok (sized c.loop-k.state.octets (join_from g.C.Codec.joining ps c.loop-k.state))) parts)
@@ -29,7 +29,7 @@ loop-k-preserved g c =
     let part = view c.part_at-part.result in
     let rest = parts_from g.C.Codec.meaning packets (n + 1) (c.args.count - (c.loop-k.k + 1)) in
     let parts = parts-next g.C.Codec.meaning packets n (c.args.count - c.loop-k.k)
-        (c.args.count - (c.loop-k.k + 1)) part c.part_at-part.ensures.part (omega arith) in
+    (c.args.count - (c.loop-k.k + 1)) part c.part_at-part.ensures.part (omega arith) in
     let steps : g.C.Codec.joining.step c.loop-k.state part ≡ Ok c.in-Ok.next = sym c.in-Ok.ensures.steps in
     let next : n + 1 ≡ c.args.first + (c.loop-k.k + 1) = omega arith in
     record {

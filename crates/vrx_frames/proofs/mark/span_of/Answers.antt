@@ -29,9 +29,9 @@ returns-in-None-start_of-clause-found c = λ ts first last whole from upto. not-
 pub returns-then-not-counts-clause-found : goal.returns-then-not-counts-clause-found
 returns-then-not-counts-clause-found c = λ ts first last whole from upto. not-false _ (λ beyond.
     let counted =
-        whole-counts c.args.passed c.args.passed c.args.ring.now ts first last c.requires.told whole beyond in
+    whole-counts c.args.passed c.args.passed c.args.ring.now ts first last c.requires.told whole beyond in
     let same = (c.in-Some-start_of.ensures.start first counted).1
-        (whole-chain (fact_at c.args.passed c.args.ring.now.entries) ts first last c.args.n whole from upto) in
+    (whole-chain (fact_at c.args.passed c.args.ring.now.entries) ts first last c.args.n whole from upto) in
     true≢false (sym counted ∙ ap (counts c.args.ring.now.newest c.args.passed)
     (sym (same_Some c.in-Some-start_of.first first same))
     ∙ ap (λ o. counts o c.args.passed c.in-Some-start_of.first) (sym c.newest.ensures.newest)
@@ -40,17 +40,18 @@ returns-then-not-counts-clause-found c = λ ts first last whole from upto. not-f
 pub returns-then-has_marker-clause-found : goal.returns-then-has_marker-clause-found
 returns-then-has_marker-clause-found c =
     let counted : counts c.args.ring.now.newest c.args.passed c.in-Some-start_of.first ≡ true =
-        ap (λ o. counts o c.args.passed c.in-Some-start_of.first) (sym c.newest.ensures.newest)
-        ∙ sym c.if-not-counts.ensures in
+    ap (λ o. counts o c.args.passed c.in-Some-start_of.first) (sym c.newest.ensures.newest)
+    ∙ sym c.if-not-counts.ensures in
     let chain : IsChain (fact_at c.args.passed c.args.ring.now.entries) c.in-Some-start_of.first c.args.n =
-        (c.in-Some-start_of.ensures.start c.in-Some-start_of.first counted).0 refl in
+    (c.in-Some-start_of.ensures.start c.in-Some-start_of.first counted).0 refl in
     let reached : IsReach (fact_at c.args.passed c.args.ring.now.entries) c.in-Some.here.ts c.args.n
-        c.spread-last.result = c.spread-last.ensures.reached in
+    c.spread-last.result = c.spread-last.ensures.reached in
     let end : Sits (fact_at c.args.passed c.args.ring.now.entries) c.in-Some.here.ts c.args.n c.spread-last.result
-        c.spread-last.result =
-        reached.linked.each c.spread-last.result reached.linked.upto (le-refl c.spread-last.result) in (
+    c.spread-last.result =
+    reached.linked.each c.spread-last.result reached.linked.upto (le-refl c.spread-last.result) in (
       chain-whole (fact_at c.args.passed c.args.ring.now.entries) c.in-Some-start_of.first c.args.n
-      c.spread-last.result c.in-Some.here.ts c.in-Some.here end.fact (sym c.in-Some.ensures) chain reached end.told
+          c.spread-last.result c.in-Some.here.ts c.in-Some.here end.fact
+          (sym c.in-Some.ensures) chain reached end.told
           (sym (ap (λ o. option_map_or (λ (f : Fact). f.marker) o false) end.told) ∙ sym c.if-has_marker.ensures),
       chain.linked.upto,
       reached.linked.upto,

@@ -9,18 +9,20 @@ use Rattle.vrx_frames.proofs.mark.start_of.Goals as goal
 
 pub returns-then-here : goal.returns-then-here
 returns-then-here c = record {
-    start = λ first counted.
-    start-found (fact_at c.args.passed c.args.ring.now.entries) c.args.n first c.args.here c.requires.here
-    c.if-here.true }
+  start = λ first counted.
+      start-found (fact_at c.args.passed c.args.ring.now.entries) c.args.n first c.args.here c.requires.here
+      c.if-here.true;
+}
 
 pub returns-in-None : goal.returns-in-None
 returns-in-None c =
     let step : c.args.n - 1 + 1 ≡ c.args.n = omega arith in
     record {
-        start = λ first counted.
-        none-found (fact_at c.args.passed c.args.ring.now.entries) c.args.n first
-        (c.args.n - 1) c.args.here step c.requires.here c.if-here.false
-        (λ a told goes. none-some a (c.in-None.ensures ∙ told)) }
+      start = λ first counted.
+          none-found (fact_at c.args.passed c.args.ring.now.entries) c.args.n first
+          (c.args.n - 1) c.args.here step c.requires.here c.if-here.false
+          (λ a told goes. none-some a (c.in-None.ensures ∙ told));
+    }
 
 pub returns-then-follows : goal.returns-then-follows
 returns-then-follows c =

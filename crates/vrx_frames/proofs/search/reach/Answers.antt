@@ -39,5 +39,5 @@ returns c = record {
       (λ b told goes. let upto : c.loop-last.last + 1 ≤ unwrap_or c.args.ring.now.newest c.args.n =
       upto-newest c.args.passed c.args.ring.now (c.loop-last.last + 1) c.args.n b c.newest.ensures.sound told in
       let newest : c.unwrap_or-newest.result ≡ unwrap_or c.args.ring.now.newest c.args.n =
-          cc in absurd (omega arith));
+      cc in absurd (omega arith));
 }

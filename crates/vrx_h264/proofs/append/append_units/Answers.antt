@@ -11,9 +11,9 @@ use Rattle.vrx_h264.proofs.append.append_units.Goals as goal
 pub append_unit-requires : goal.append_unit-requires
 append_unit-requires c =
     let more =
-        ap length (added-some c.loop-unit.rest.now c.in-Some.unit.now c.in-Some.behind.now c.in-Some.ensures.front) in
+    ap length (added-some c.loop-unit.rest.now c.in-Some.unit.now c.in-Some.behind.now c.in-Some.ensures.front) in
     let long = length-append (after_code c.in-Some.unit.now)
-        (flat_map piece_octets (map Whole (units_of c.in-Some.behind.now).units)) in
+    (flat_map piece_octets (map Whole (units_of c.in-Some.behind.now).units)) in
     omega (arith, more, long, c.loop-unit.invariant.room)
 
 pub loop-unit-preserved : goal.loop-unit-preserved
@@ -28,8 +28,14 @@ loop-unit-preserved c =
           ∙ append_assoc c.loop-unit.out.items (after_code c.in-Some.unit.now) later
           ∙ ap (λ (x : List ℕ). c.loop-unit.out.items ++ x) (sym is)
           ∙ c.loop-unit.invariant.same;
-      room = omega (arith, more, long, c.loop-unit.invariant.room, c.append_unit.ensures.len,
-          c.append_unit.ensures.capacity);
+      room = omega (
+        arith,
+        more,
+        long,
+        c.loop-unit.invariant.room,
+        c.append_unit.ensures.len,
+        c.append_unit.ensures.capacity,
+      );
       capacity = omega (arith, c.append_unit.ensures.capacity, c.loop-unit.invariant.capacity);
     }
 

@@ -10,9 +10,9 @@ use Rattle.vrx_h264.proofs.joining.added_units.Goals as goal
 pub loop-unit-preserved : goal.loop-unit-preserved
 loop-unit-preserved c =
     let more =
-        ap length (added-some c.loop-unit.rest.now c.in-Some.unit.now c.in-Some.behind.now c.in-Some.ensures.front) in
+    ap length (added-some c.loop-unit.rest.now c.in-Some.unit.now c.in-Some.behind.now c.in-Some.ensures.front) in
     let long = length-append (after_code c.in-Some.unit.now)
-        (flat_map piece_octets (map Whole (units_of c.in-Some.behind.now).units)) in
+    (flat_map piece_octets (map Whole (units_of c.in-Some.behind.now).units)) in
     record {
       same = omega (arith, more, long, c.loop-unit.invariant.same);
       few = omega (arith, c.in-Some.ensures.shorter, c.loop-unit.invariant.few);

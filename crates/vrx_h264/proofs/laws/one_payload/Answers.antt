@@ -5,9 +5,11 @@ use Rattle.vrx_h264.proofs.PayloadLemmas.{carried_spelled, payload-reads, part-r
 use Rattle.vrx_h264.proofs.laws.one_payload.Goals as goal
 
 pub returns-clause-carried : goal.returns-clause-carried
-returns-clause-carried c payload carried are =
-    (λ h. carried_spelled payload carried are h.0 h.1, λ is. let reads = payload-reads payload carried is in
-    (reads.right, reads.carries))
+returns-clause-carried c payload carried are = (
+  λ h. carried_spelled payload carried are h.0 h.1,
+  λ is. let reads = payload-reads payload carried is in
+      (reads.right, reads.carries),
+)
 
 pub returns-clause-part : goal.returns-clause-part
 returns-clause-part c payload carried is = part-reads payload carried (payload-reads payload carried is)

@@ -16,16 +16,18 @@ returns-in-Ok-clause-packet c =
     let none : first_fault rest ≡ None = ap first_fault (sym here) ∙ sym c.in-Ok.ensures.fault in
     let says : message rest ≡ view c.in-Ok.body = ap message (sym here) ∙ sym c.in-Ok.ensures.body in
     let long : size rest ≡ c.args.at + c.in-Ok.size - c.args.at =
-        ap size (sym here) ∙ sym c.in-Ok.ensures.size ∙ omega arith in
+    ap size (sym here) ∙ sym c.in-Ok.ensures.size ∙ omega arith in
     subst (λ (n : ℕ). IsPacket (take n rest) (view c.in-Ok.body)) long
     (subst (λ m. IsPacket (take (size rest) rest) m) says (message-is rest fit none))
 
 pub returns-in-Ok-clause-only : goal.returns-in-Ok-clause-only
 returns-in-Ok-clause-only c = λ packet behind says spelled is.
     let reads = reads-packet packet behind says is in
-    let here : c.from.result.now ≡ packet ++ behind = c.from.ensures.octets ∙ spelled in
-    (c.in-Ok.ensures.body ∙ ap message here
-    ∙ reads.message, ap (λ (n : ℕ). c.args.at + n) (c.in-Ok.ensures.size ∙ ap size here ∙ reads.size))
+    let here : c.from.result.now ≡ packet ++ behind = c.from.ensures.octets ∙ spelled in (
+      c.in-Ok.ensures.body ∙ ap message here
+          ∙ reads.message,
+      ap (λ (n : ℕ). c.args.at + n) (c.in-Ok.ensures.size ∙ ap size here ∙ reads.size),
+    )
 
 pub returns-in-Err-clause-only : goal.returns-in-Err-clause-only
 returns-in-Err-clause-only c = λ packet behind says spelled is.

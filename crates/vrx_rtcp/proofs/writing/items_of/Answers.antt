@@ -43,7 +43,7 @@ pub loop-n-init : goal.loop-n-init
 loop-n-init c =
     let later = c.args.later.now in
     let begins = building-begins (c.args.first + NACK_SPAN) c.args.first later
-        (rises_to (c.args.first + NACK_SPAN) c.args.first later c.requires.rising c.requires.near) in
+    (rises_to (c.args.first + NACK_SPAN) c.args.first later c.requires.rising c.requires.near) in
     subst (λ (x : List Item). Stands c.args.first later x (record { first = c.args.first; blp = 0 }) later)
     (sym c.new-items.ensures) begins
 
@@ -74,8 +74,8 @@ returns-clause-items c =
     let later = c.args.later.now in
     let at_end : drop c.loop-n.n-index later ≡ [] = drop_all c.loop-n.n-index later c.loop-n-test.false in
     let ended : Stands c.args.first later c.loop-n.items.items c.loop-n.item [] =
-        subst (λ (x : List ℕ). Stands c.args.first later c.loop-n.items.items c.loop-n.item x) at_end
-        c.loop-n.invariant in
+    subst (λ (x : List ℕ). Stands c.args.first later c.loop-n.items.items c.loop-n.item x) at_end
+    c.loop-n.invariant in
     c.push-2.ensures.items ∙ building-ends _ _ _ _ _ _ ended
     ∙ items-are (c.args.first + NACK_SPAN) c.args.first later
     (rises_to (c.args.first + NACK_SPAN) c.args.first later c.requires.rising c.requires.near)

@@ -7,9 +7,11 @@ use Rattle.vrx_capture.proofs.buffer.Buffer.find.Goals as goal
 
 pub reads-init : goal.reads-init
 reads-init g c = record {
-  reads = (reads_none c.args.self.now c.args.self.now (g.S.Source.left c.args.source.now)
-      (g.S.Source.left c.args.source.now) refl refl,
-      reads_nothing g.S.Source.is_read IsOpenLine c.args.self.now.kept c.args.source.now);
+  reads = (
+    reads_none c.args.self.now c.args.self.now (g.S.Source.left c.args.source.now)
+        (g.S.Source.left c.args.source.now) refl refl,
+    reads_nothing g.S.Source.is_read IsOpenLine c.args.self.now.kept c.args.source.now,
+  );
   idle = λ ended. (refl, refl);
   counted = refl;
 }
@@ -17,7 +19,7 @@ reads-init g c = record {
 pub reads-preserved : goal.reads-preserved
 reads-preserved g c =
     let reads : ReadsOn c.reads.self c.more.new.self (g.S.Source.left c.reads.source)
-        (g.S.Source.left c.more.new.source) = rw c.found_here.ensures.same at c.in_ok-more-in-None.ensures.reads in
+    (g.S.Source.left c.more.new.source) = rw c.found_here.ensures.same at c.in_ok-more-in-None.ensures.reads in
     let one = rw c.found_here.ensures.same at c.more.ensures.one in
     record {
       reads = reads_more g.S.Source.is_read g.S.Source.left c.args.self.now c.reads.self c.more.new.self
@@ -32,9 +34,9 @@ pub returns-in_err-more-in-None-clause-reads : goal.returns-in_err-more-in-None-
 returns-in_err-more-in-None-clause-reads g c =
     let same = c.in_err-more-in-None.ensures.failed in
     let reads : ReadsOn c.reads.self c.more.new.self (g.S.Source.left c.reads.source)
-        (g.S.Source.left c.more.new.source) =
-        reads_none c.reads.self c.more.new.self (g.S.Source.left c.reads.source) (g.S.Source.left c.more.new.source)
-        (same.0 ∙ c.found_here.ensures.same) same.1 in
+    (g.S.Source.left c.more.new.source) =
+    reads_none c.reads.self c.more.new.self (g.S.Source.left c.reads.source) (g.S.Source.left c.more.new.source)
+    (same.0 ∙ c.found_here.ensures.same) same.1 in
     let one = rw c.found_here.ensures.same at c.more.ensures.one in
     reads_more g.S.Source.is_read g.S.Source.left c.args.self.now c.reads.self c.more.new.self c.args.source.now
     c.reads.source c.more.new.source c.reads.invariant.reads reads one.0 one.1 one.2

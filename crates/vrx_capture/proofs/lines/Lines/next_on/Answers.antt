@@ -6,8 +6,10 @@ use Rattle.vrx_capture.proofs.lines.Lines.next_on.Goals as goal
 
 pub lines-init : goal.lines-init
 lines-init g c = record {
-  goes = (goes_none c.args.self.now (g.S.Source.left c.args.source.now) c.requires,
-      reads_nothing g.S.Source.is_read (SayNothing c.args.self.now) c.args.self.now.kept c.args.source.now);
+  goes = (
+    goes_none c.args.self.now (g.S.Source.left c.args.source.now) c.requires,
+    reads_nothing g.S.Source.is_read (SayNothing c.args.self.now) c.args.self.now.kept c.args.source.now,
+  );
   idle = λ ended. refl;
   counted = refl;
 }

@@ -22,11 +22,16 @@ returns g c =
     let i = c.self.inside in
     let parts : Assembly = assembly_of i.settings i.count i.window i.runs i.frames i.last_pulled i.front in
     let joins : join_of g.C.Codec.meaning (packets_of parts) c.args.run.first c.args.run.last ≡ Ok c.from_vec.result =
-        c.in_ok-octets.ensures.joined ∙ ap Ok (sym c.from_vec.ensures) in
+    c.in_ok-octets.ensures.joined ∙ ap Ok (sym c.from_vec.ensures) in
     record {
-        frame = subst (λ (p : Assembly).
-        IsFrameOf g.C.Codec.meaning p c.args.run
-        (record {
-        first = c.args.run.first; last = c.args.run.last; ts = c.args.run.ts; key = c.args.run.key; bytes =
-        c.from_vec.result })) c.self.view_is
-        (frame-joined g.C.Codec.meaning parts c.args.run c.from_vec.result joins) }
+      frame = subst (λ (p : Assembly).
+          IsFrameOf g.C.Codec.meaning p c.args.run
+          (record {
+            first = c.args.run.first;
+            last = c.args.run.last;
+            ts = c.args.run.ts;
+            key = c.args.run.key;
+            bytes = c.from_vec.result;
+          })) c.self.view_is
+          (frame-joined g.C.Codec.meaning parts c.args.run c.from_vec.result joins);
+    }

@@ -1,5 +1,3 @@
-use Rattle.std.proofs.Common.{◌≡◌, refl, sym, subst, ap, ◌∙◌}
-use Rattle.vrx_core.specs.inside.Fields.{AreFields}
 use Rattle.vrx_core.proofs.step.FieldLemmas.{fields-given-up}
 use Rattle.vrx_core.proofs.assembler.Assembler.give_up_all.Goals as goal
 

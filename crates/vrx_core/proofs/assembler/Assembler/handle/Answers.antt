@@ -24,7 +24,7 @@ pub returns-in_ok-held-in-Ok-clause-handled : goal.returns-in_ok-held-in-Ok-clau
 returns-in_ok-held-in-Ok-clause-handled g c =
     let taken = view_taken c.in-Ok.taken in
     let may = subst (λ (p : Assembly).
-        MayBeTaken g.C.Codec.meaning p.window c.in-Ok.taken.number c.in_ok-held-in-Ok.held) c.self.view_is (record {
+    MayBeTaken g.C.Codec.meaning p.window c.in-Ok.taken.number c.in_ok-held-in-Ok.held) c.self.view_is (record {
       fresh = c.in-Ok.ensures.fresh;
       near = subst (λ o. IsNear o c.in-Ok.taken.number) c.self.invariant.newest c.in-Ok.ensures.reach;
       sound = c.in_ok-held-in-Ok.ensures.sound;
@@ -32,13 +32,21 @@ returns-in_ok-held-in-Ok-clause-handled g c =
     }) in
     handled-taken g.C.Codec.meaning c.args.self.now c.take-key.new.self c.args.moment c.args.octets.now
     (record {
-    what = c.answer_taken.result; arrival =
-    Some (record {
-    number = c.in-Ok.taken.number; newest = c.newest-newest.result; lost = c.greatest_lost-lost.result; key =
-    c.take-key.result }) }) c.in-Ok.taken.number taken.1
+      what = c.answer_taken.result;
+      arrival =
+          Some (record {
+            number = c.in-Ok.taken.number;
+            newest = c.newest-newest.result;
+            lost = c.greatest_lost-lost.result;
+            key = c.take-key.result;
+          });
+    }) c.in-Ok.taken.number taken.1
     (record {
-    number = c.in-Ok.taken.number; newest = c.newest-newest.result; lost = c.greatest_lost-lost.result; key =
-    c.take-key.result })
+      number = c.in-Ok.taken.number;
+      newest = c.newest-newest.result;
+      lost = c.greatest_lost-lost.result;
+      key = c.take-key.result;
+    })
     (subst (λ (p : Assembly).
     verdict p.settings g.C.Codec.meaning (contents_of p.window) c.args.octets.now ≡ Ok
     (c.in-Ok.taken.number, taken.1)) c.self.view_is

@@ -5,5 +5,6 @@ use Rattle.vrx_core.proofs.assembler.Assembler.next.Goals as goal
 pub next-requires : goal.next-requires
 next-requires g c = let i = c.self.inside in
     record {
-    beyond = next-beyond g.C.Codec.meaning
-    (assembly_of i.settings i.count i.window i.runs i.frames i.last_pulled i.front) c.self.invariant.whole.kept }
+      beyond = next-beyond g.C.Codec.meaning
+          (assembly_of i.settings i.count i.window i.runs i.frames i.last_pulled i.front) c.self.invariant.whole.kept;
+    }

@@ -1,16 +1,15 @@
-use Rattle.std.proofs.Common.{◌≡◌, ◌↔◌, ℕ, ◌+◌, ◌<◌, max, true, List, [], ◌∷◌, Option, None, IfSome, refl, sym, subst, ap, ◌∙◌}
+use Rattle.std.proofs.Common.{◌≡◌, ◌↔◌, ◌+◌, ◌<◌, max, true, List, ◌∷◌, refl, sym, subst, ap, ◌∙◌}
 use Rattle.std.specs.Prelude.{IsErr}
 use Rattle.std.proofs.Math.Facts.{Fits-lt-pow}
 use Rattle.std.proofs.lemmas.List.Elements.{All-from_get_or}
 use Rattle.vrx_window.specs.Content.{contents_of}
-use Rattle.vrx_core.specs.machine.Machine.{Reply, ToDatagram, nack_for, pli_for, reply}
+use Rattle.vrx_core.specs.machine.Machine.{ToDatagram, reply}
 use Rattle.vrx_core.specs.machine.Reasons.{MeansAnswer}
 use Rattle.vrx_core.specs.machine.Verdict.{verdict}
 use Rattle.vrx_core.specs.relation.Order.{greatest_of}
 use Rattle.vrx_core.specs.relation.StandsFor.{Assembly, EngineParts, StandsFor, Wanted, parts_of}
-use Rattle.vrx_core.specs.inside.Fields.{IsSound}
 use Rattle.vrx_core.specs.inside.Kept.{key_numbers}
-use Rattle.vrx_core.specs.inside.Wants.{AreFresh, asked_with, key_with, wanted_with}
+use Rattle.vrx_core.specs.inside.Wants.{AreFresh, wanted_with}
 use Rattle.vrx_core.specs.declared.event.Event.{Event}
 use Rattle.vrx_core.specs.declared.event.Event.TheVariants.{Datagram}
 use Rattle.vrx_core.specs.declared.reply.What.{What}
@@ -61,12 +60,17 @@ returns-clause-reply g c =
     let a = c.handle.new.self in
     subst (λ (p : EngineParts). (h : List Event) → StandsFor g.C.Codec.meaning p h →
     ToDatagram (record {
-    what = c.in_ok-outcome.outcome.what; repaired = c.new.result; feedback = c.ask-feedback.result })
+      what = c.in_ok-outcome.outcome.what;
+      repaired = c.new.result;
+      feedback = c.ask-feedback.result;
+    })
     ≡ reply p.settings g.C.Codec.meaning h (Datagram c.args.moment c.args.bytes.now)) c.self.view_is
     (λ h stands.
     (λ j. ToDatagram (record {
-    what = c.in_ok-outcome.outcome.what; repaired = c.new.result; feedback =
-    record { nack = c.ask-feedback.ensures.nack j; pli = c.ask-feedback.ensures.pli j } }))
+      what = c.in_ok-outcome.outcome.what;
+      repaired = c.new.result;
+      feedback = record { nack = c.ask-feedback.ensures.nack j; pli = c.ask-feedback.ensures.pli j };
+    }))
     ∙ datagram-reply c.runs_are.ensures c.runs_rise.ensures g.C.Codec.meaning i.assembler a i.requests c.args.moment
     c.args.bytes.now c.in_ok-outcome.outcome h c.in_ok-outcome.ensures.handled c.in_ok-outcome.ensures.before
     c.in_ok-outcome.ensures.after c.ask-feedback.ensures.sound stands
@@ -86,12 +90,12 @@ returns-clause-refused g c =
     ≡ record p { events = p.events + 1; clock = max p.clock c.args.moment })) c.self.view_is
     (λ refused.
     let r = datagram-refused g.C.Codec.meaning i.assembler c.handle.new.self c.args.moment c.args.bytes.now
-        c.in_ok-outcome.outcome c.in_ok-outcome.ensures.handled refused in (
+    c.in_ok-outcome.outcome c.in_ok-outcome.ensures.handled refused in (
       refl,
       ap (λ (w : Wanted). parts_of c.handle.new.self w)
-      (c.ask-feedback.ensures.wanted
-      ∙ ap (λ o. wanted_with c.handle.new.self.clock c.handle.new.self.front
-      (greatest_of (key_numbers c.handle.new.self.frames)) o i.requests) r.0)
+          (c.ask-feedback.ensures.wanted
+          ∙ ap (λ o. wanted_with c.handle.new.self.clock c.handle.new.self.front
+          (greatest_of (key_numbers c.handle.new.self.frames)) o i.requests) r.0)
           ∙ ap (λ (a : Assembly). parts_of a i.requests) r.1,
     ))
 

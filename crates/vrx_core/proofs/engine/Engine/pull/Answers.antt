@@ -5,7 +5,7 @@ use Rattle.vrx_frames.specs.Run.{Run as RunOf}
 use Rattle.vrx_core.specs.machine.Answers.{IsLeastDeliverable, NoneDeliverable}
 use Rattle.vrx_core.specs.machine.Machine.{IfFrame, ToPull, frame_of as frame_of_run, last_pulled, latest, reply, snapshots}
 use Rattle.vrx_core.specs.relation.StandsFor.{EngineParts, StandsFor, Wanted, parts_of}
-use Rattle.vrx_core.specs.inside.Fields.{IsHandedOut, IsSound}
+use Rattle.vrx_core.specs.inside.Fields.{IsHandedOut}
 use Rattle.vrx_core.specs.inside.Wants.{AreFresh, beyond_front, pulled_with, wanted_pulled}
 use Rattle.vrx_window.specs.Window.{Contents}
 use Rattle.vrx_window.specs.declared.held.Held.{Held}
@@ -96,8 +96,8 @@ returns-in-Some-clause-not_ready_exactly g c =
     let i = c.self.inside in
     subst (λ (p : EngineParts). (h : List Event) → StandsFor g.C.Codec.meaning p h →
     let s = latest (snapshots p.settings g.C.Codec.meaning h) in
-        (pulls.Frame c.in-Some.frame ≡ pulls.NotReady) ↔ NoneDeliverable (last_pulled s.pulled) s.front s.standing)
-        c.self.view_is
+    (pulls.Frame c.in-Some.frame ≡ pulls.NotReady) ↔ NoneDeliverable (last_pulled s.pulled) s.front s.standing)
+    c.self.view_is
     (λ h stands. pull-exactly c.runs_are.ensures c.runs_rise.ensures c.runs_apart.ensures
     c.answers_are.ensures.answers g.C.Codec.meaning i.assembler c.hand_out.new.self c.args.moment
     (Some c.in-Some.frame) h
@@ -109,7 +109,7 @@ returns-in-None-clause-not_ready_exactly g c =
     let i = c.self.inside in
     subst (λ (p : EngineParts). (h : List Event) → StandsFor g.C.Codec.meaning p h →
     let s = latest (snapshots p.settings g.C.Codec.meaning h) in
-        (pulls.NotReady ≡ pulls.NotReady) ↔ NoneDeliverable (last_pulled s.pulled) s.front s.standing) c.self.view_is
+    (pulls.NotReady ≡ pulls.NotReady) ↔ NoneDeliverable (last_pulled s.pulled) s.front s.standing) c.self.view_is
     (λ h stands. pull-exactly c.runs_are.ensures c.runs_rise.ensures c.runs_apart.ensures
     c.answers_are.ensures.answers g.C.Codec.meaning i.assembler c.hand_out.new.self c.args.moment None h
     (subst (λ frame. IsHandedOut g.C.Codec.meaning i.assembler c.hand_out.new.self c.args.moment frame) c.in-None.is
@@ -120,9 +120,9 @@ returns-in-Some-clause-frame g c =
     let i = c.self.inside in
     subst (λ (p : EngineParts). (h : List Event) → StandsFor g.C.Codec.meaning p h →
     let s = latest (snapshots p.settings g.C.Codec.meaning h) in
-        IfFrame (pulls.Frame c.in-Some.frame)
-        (λ frame. (run : RunOf) × IsLeastDeliverable (last_pulled s.pulled) s.front s.standing run
-        × (frame ≡ frame_of_run run))) c.self.view_is
+    IfFrame (pulls.Frame c.in-Some.frame)
+    (λ frame. (run : RunOf) × IsLeastDeliverable (last_pulled s.pulled) s.front s.standing run
+    × (frame ≡ frame_of_run run))) c.self.view_is
     (λ h stands. pull-frame c.runs_are.ensures c.runs_rise.ensures c.runs_apart.ensures c.answers_are.ensures.answers
     g.C.Codec.meaning i.assembler c.hand_out.new.self c.args.moment (Some c.in-Some.frame) h
     (subst (λ frame. IsHandedOut g.C.Codec.meaning i.assembler c.hand_out.new.self c.args.moment frame) c.in-Some.is

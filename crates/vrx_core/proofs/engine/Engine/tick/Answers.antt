@@ -1,12 +1,11 @@
 use Rattle.std.proofs.Common.{◌≡◌, ℕ, max, List, ◌∷◌, Option, sym, subst, ap, ◌∙◌}
 use Rattle.std.specs.Prelude.{is_some}
-use Rattle.vrx_asks.specs.Asks.{asked_numbers, asks_left, given_up_numbers}
+use Rattle.vrx_asks.specs.Asks.{asked_numbers, given_up_numbers}
 use Rattle.vrx_window.specs.Window.{Contents}
 use Rattle.vrx_window.specs.declared.held.Held.{Held}
 use Rattle.vrx_core.specs.machine.Machine.{ToTick, nack_for, pli_for, reply}
 use Rattle.vrx_core.specs.relation.Order.{greatest_of}
 use Rattle.vrx_core.specs.relation.StandsFor.{Assembly, EngineParts, StandsFor, Wanted, parts_of}
-use Rattle.vrx_core.specs.inside.Fields.{IsSound}
 use Rattle.vrx_core.specs.inside.Kept.{key_numbers}
 use Rattle.vrx_core.specs.inside.Step.{after_counting}
 use Rattle.vrx_core.specs.inside.Wants.{AreFresh, AreNear, CanGiveUpAll, asks_key, given_up_all, needs_key, wanted_ticked}
@@ -57,15 +56,18 @@ numbers-are g c = c.as_slice.ensures.value ∙ c.ticked-ticked.ensures.lost
     ∙ (λ i. given_up_numbers (now-is g c i) (settings-are g c i).interval c.self.inside.requests.asks)
 
 after-is : (g : given.Over) (c : goal.After-pli_if g) →
-    c.give_up_all.new.self ≡ record (after_counting c.self.inside.assembler c.args.moment) { window =
-    given_up_all (given_up_numbers
-    (max c.self.inside.assembler.clock c.args.moment) c.self.inside.assembler.settings.interval
-    c.self.inside.requests.asks) c.self.inside.assembler.window }
+    c.give_up_all.new.self ≡ record (after_counting c.self.inside.assembler c.args.moment) {
+      window =
+          given_up_all (given_up_numbers
+          (max c.self.inside.assembler.clock c.args.moment) c.self.inside.assembler.settings.interval
+          c.self.inside.requests.asks) c.self.inside.assembler.window;
+    }
 after-is g c =
     c.give_up_all.ensures.given_up
     ∙ ap (λ (a : Assembly). record a { window = given_up_all c.as_slice.result.now a.window }) c.count.ensures.counted
-    ∙ ap (λ ns. record (after_counting c.self.inside.assembler c.args.moment) { window =
-    given_up_all ns c.self.inside.assembler.window }) (numbers-are g c)
+    ∙ ap (λ ns. record (after_counting c.self.inside.assembler c.args.moment) {
+      window = given_up_all ns c.self.inside.assembler.window;
+    }) (numbers-are g c)
 
 -- what is wanted after it
 started-is : (g : given.Over) (c : goal.After-pli_if g) →

@@ -1,4 +1,3 @@
-use Rattle.vrx_core.proofs.step.FreshLemmas.{fresh-none}
 use Rattle.vrx_core.proofs.step.WantedLemmas.{stands-opened}
 use Rattle.vrx_core.proofs.engine.Engine.with_settings.Goals as goal
 

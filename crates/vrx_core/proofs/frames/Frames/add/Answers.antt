@@ -1,4 +1,4 @@
-use Rattle.std.proofs.Common.{◌≡◌, ◌≤◌, ◌<◌, ◌+◌, ◌∙◌, ℕ, List, Option, Some, cond, sym, ap, subst, rules}
+use Rattle.std.proofs.Common.{◌≡◌, ◌≤◌, ◌<◌, ◌+◌, ◌∙◌, ℕ, List, Some, cond, sym, ap, subst, rules}
 use Rattle.vrx_num.specs.declared.limits.TheConstants.{WINDOW}
 use Rattle.vrx_window.specs.Window.{newest_with, entries_with}
 use Rattle.vrx_core.specs.relation.Order.{greatest_of, put_by}
@@ -59,7 +59,7 @@ pub invariant_of-self : goal.invariant_of-self
 invariant_of-self c =
     let from : ℕ = from_of c.self.inside.gone in
     let low : from ≤ c.args.run.first =
-        subst (λ s. s.from ≤ c.args.run.first) (sym c.self.view_is) c.requires.beyond in
+    subst (λ s. s.from ≤ c.args.run.first) (sym c.self.view_is) c.requires.beyond in
     let kept : IsKept from c.place.new.self c.if-run.self-inside.keys =
     added-kept from c.self.inside.ring c.self.inside.keys c.self.invariant.kept c.args.run
     low

@@ -13,7 +13,7 @@ use Rattle.vrx_core.proofs.keys.Keys.put.Goals as goal
 pub unreachable-requires : goal.unreachable-requires
 unreachable-requires c =
     let room : length (numbers_of (heap_items c.self.inside.heap)) < WINDOW =
-        subst (λ ns. length ns < WINDOW) (sym c.self.view_is) c.requires.room in
+    subst (λ ns. length ns < WINDOW) (sym c.self.view_is) c.requires.room in
     let len : heap_len c.self.inside.heap ≡ length (heap_items c.self.inside.heap) = search rules in
     true≢false (sym (c.in-Err.ensures.succeeds
     (omega (arith, len, room, length-sorted (λ x. x.0) (heap_items c.self.inside.heap), c.self.invariant.room))))
@@ -26,7 +26,7 @@ pub invariant_of-self : goal.invariant_of-self
 invariant_of-self c =
     let ns = numbers_of (heap_items c.self.inside.heap) in
     let fresh : list_any (λ m. m == c.args.n) ns ≡ false =
-        ap (list_any (λ m. m == c.args.n)) c.self.view_is ∙ c.requires.fresh in
+    ap (list_any (λ m. m == c.args.n)) c.self.view_is ∙ c.requires.fresh in
     record {
       ordered = c.in-Ok.ensures.heap_order c.self.invariant.ordered;
       rise = ap (rises_by (λ n. n)) (put-is c) ∙ rises-put (λ n. n) c.args.n ns fresh c.self.invariant.rise;

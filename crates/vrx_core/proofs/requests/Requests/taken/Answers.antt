@@ -1,7 +1,5 @@
-use Rattle.std.proofs.Common.{◌≡◌, ◌-◌, true, List, Option, sym, ◌∙◌, ap, subst}
-use Rattle.vrx_num.specs.declared.limits.TheConstants.{WINDOW}
+use Rattle.std.proofs.Common.{◌≡◌, ◌-◌, sym, ◌∙◌, ap, subst}
 use Rattle.vrx_asks.specs.Asks.{are_below, beyond, is_near}
-use Rattle.vrx_asks.specs.declared.ask.Ask.{Ask}
 use Rattle.vrx_core.specs.relation.StandsFor.{Wanted}
 use Rattle.vrx_core.specs.inside.Wants.{AreBelow, beyond_front}
 use Rattle.vrx_core.proofs.step.GapLemmas.{left-below, left-near, left_after}

@@ -11,7 +11,7 @@ use Rattle.vrx_frames.proofs.runs.Runs.completed.Goals as goal
 pub run_after-second-requires-clause-held : goal.run_after-second-requires-clause-held
 run_after-second-requires-clause-held g c =
     let call : IsCall g.C.Codec.meaning c.args.window.now c.in-Some-Some.newest c.args.arrived c.held_shape.result
-        c.args.self.now c.self.inside.ring c.note.new.ring = record {
+    c.args.self.now c.self.inside.ring c.note.new.ring = record {
       earlier = c.self.inside.passed;
       view_is = c.self.view_is;
       sound = c.requires.sound;
@@ -34,7 +34,7 @@ run_after-second-requires-clause-held g c =
 pub run_around-first-requires-clause-held : goal.run_around-first-requires-clause-held
 run_around-first-requires-clause-held g c =
     let call : IsCall g.C.Codec.meaning c.args.window.now c.in-Some-Some.newest c.args.arrived c.held_shape.result
-        c.args.self.now c.self.inside.ring c.note.new.ring = record {
+    c.args.self.now c.self.inside.ring c.note.new.ring = record {
       earlier = c.self.inside.passed;
       view_is = c.self.view_is;
       sound = c.requires.sound;
@@ -57,7 +57,7 @@ run_around-first-requires-clause-held g c =
 pub run_around-first-requires-clause-before : goal.run_around-first-requires-clause-before
 run_around-first-requires-clause-before g c =
     let call : IsCall g.C.Codec.meaning c.args.window.now c.in-Some-Some.newest c.args.arrived c.held_shape.result
-        c.args.self.now c.self.inside.ring c.note.new.ring = record {
+    c.args.self.now c.self.inside.ring c.note.new.ring = record {
       earlier = c.self.inside.passed;
       view_is = c.self.view_is;
       sound = c.requires.sound;
@@ -75,8 +75,8 @@ run_around-first-requires-clause-before g c =
       numbered = c.note.ensures.numbered;
     } in
     let newly : c.begins_newly-newly.result
-        ≡ newly_begins c.in-Some-Some.newest c.args.arrived c.args.passed c.self.inside.ring.entries
-        c.note.new.ring.entries =
+    ≡ newly_begins c.in-Some-Some.newest c.args.arrived c.args.passed c.self.inside.ring.entries
+    c.note.new.ring.entries =
     c.begins_newly-newly.ensures ∙ ap (λ a. a && not c.next_starts-before.result) c.next_starts-after.ensures
     ∙ ap (λ b. (nat_lt c.args.arrived c.in-Some-Some.newest && starts_at c.args.passed c.note.new.ring.entries
     (c.args.arrived + 1)) && not b) c.next_starts-before.ensures in
@@ -89,7 +89,7 @@ run_around-first-requires-clause-before g c =
 pub invariant_of-self : goal.invariant_of-self
 invariant_of-self g c =
     let call : IsCall g.C.Codec.meaning c.args.window.now c.in-Some-Some.newest c.args.arrived c.held_shape.result
-        c.args.self.now c.self.inside.ring c.note.new.ring = record {
+    c.args.self.now c.self.inside.ring c.note.new.ring = record {
       earlier = c.self.inside.passed;
       view_is = c.self.view_is;
       sound = c.requires.sound;
@@ -107,8 +107,8 @@ invariant_of-self g c =
       numbered = c.note.ensures.numbered;
     } in
     let newly : c.begins_newly-newly.result
-        ≡ newly_begins c.in-Some-Some.newest c.args.arrived c.args.passed c.self.inside.ring.entries
-        c.note.new.ring.entries =
+    ≡ newly_begins c.in-Some-Some.newest c.args.arrived c.args.passed c.self.inside.ring.entries
+    c.note.new.ring.entries =
     c.begins_newly-newly.ensures ∙ ap (λ a. a && not c.next_starts-before.result) c.next_starts-after.ensures
     ∙ ap (λ b. (nat_lt c.args.arrived c.in-Some-Some.newest && starts_at c.args.passed c.note.new.ring.entries
     (c.args.arrived + 1)) && not b) c.next_starts-before.ensures in
@@ -123,7 +123,7 @@ invariant_of-self g c =
 pub returns-clause-known : goal.returns-clause-known
 returns-clause-known g c =
     let call : IsCall g.C.Codec.meaning c.args.window.now c.in-Some-Some.newest c.args.arrived c.held_shape.result
-        c.args.self.now c.self.inside.ring c.note.new.ring = record {
+    c.args.self.now c.self.inside.ring c.note.new.ring = record {
       earlier = c.self.inside.passed;
       view_is = c.self.view_is;
       sound = c.requires.sound;
@@ -146,7 +146,7 @@ returns-clause-known g c =
 pub returns-clause-completes : goal.returns-clause-completes
 returns-clause-completes g c =
     let call : IsCall g.C.Codec.meaning c.args.window.now c.in-Some-Some.newest c.args.arrived c.held_shape.result
-        c.args.self.now c.self.inside.ring c.note.new.ring = record {
+    c.args.self.now c.self.inside.ring c.note.new.ring = record {
       earlier = c.self.inside.passed;
       view_is = c.self.view_is;
       sound = c.requires.sound;
@@ -164,8 +164,8 @@ returns-clause-completes g c =
       numbered = c.note.ensures.numbered;
     } in
     let newly : c.begins_newly-newly.result
-        ≡ newly_begins c.in-Some-Some.newest c.args.arrived c.args.passed c.self.inside.ring.entries
-        c.note.new.ring.entries =
+    ≡ newly_begins c.in-Some-Some.newest c.args.arrived c.args.passed c.self.inside.ring.entries
+    c.note.new.ring.entries =
     c.begins_newly-newly.ensures ∙ ap (λ a. a && not c.next_starts-before.result) c.next_starts-after.ensures
     ∙ ap (λ b. (nat_lt c.args.arrived c.in-Some-Some.newest && starts_at c.args.passed c.note.new.ring.entries
     (c.args.arrived + 1)) && not b) c.next_starts-before.ensures in
@@ -182,7 +182,7 @@ returns-clause-completes g c =
 pub returns-clause-rise : goal.returns-clause-rise
 returns-clause-rise g c =
     let call : IsCall g.C.Codec.meaning c.args.window.now c.in-Some-Some.newest c.args.arrived c.held_shape.result
-        c.args.self.now c.self.inside.ring c.note.new.ring = record {
+    c.args.self.now c.self.inside.ring c.note.new.ring = record {
       earlier = c.self.inside.passed;
       view_is = c.self.view_is;
       sound = c.requires.sound;
@@ -200,8 +200,8 @@ returns-clause-rise g c =
       numbered = c.note.ensures.numbered;
     } in
     let newly : c.begins_newly-newly.result
-        ≡ newly_begins c.in-Some-Some.newest c.args.arrived c.args.passed c.self.inside.ring.entries
-        c.note.new.ring.entries =
+    ≡ newly_begins c.in-Some-Some.newest c.args.arrived c.args.passed c.self.inside.ring.entries
+    c.note.new.ring.entries =
     c.begins_newly-newly.ensures ∙ ap (λ a. a && not c.next_starts-before.result) c.next_starts-after.ensures
     ∙ ap (λ b. (nat_lt c.args.arrived c.in-Some-Some.newest && starts_at c.args.passed c.note.new.ring.entries
     (c.args.arrived + 1)) && not b) c.next_starts-before.ensures in
