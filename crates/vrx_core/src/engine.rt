@@ -175,6 +175,9 @@ impl<C: Codec> Engine<C> {
     /// that applies, in the order of [`reasons_mean`]: a payload that isn't empty and that the codec refuses is
     /// `BadPart` with the codec's number, and `Form` comes of a part with layers, which isn't taken.
     ///
+    /// The feedback of a datagram that is taken asks for each number that it makes missing, by one NACK, and for a
+    /// keyframe, by one PLI, if it gives up a number that no keyframe answers and no request is outstanding.
+    ///
     /// `NoMemory` changes nothing, the clock and the count included. A datagram that is refused or RTCP is never
     /// answered so, and moves only the clock and the count.
     pub fn datagram(&mut self, moment: u64, bytes: &[u8]) -> Result<Handled, NoMemory>

@@ -10,7 +10,7 @@ use vrx_rtcp::Feedback;
 /// Why a datagram was refused. Under each of them all stays as it was but the clock and the count of events.
 ///
 /// They stand in the order in which they are tested, but for `Form`, which is tested before `TooFar`. `NoApt`,
-/// `RtxEmpty`, `MoreBlocks`, `BadRed`, `BadFec` and `Dead` are never answered.
+/// `RtxEmpty`, `MoreBlocks`, `BadRed` and `BadFec` are never answered.
 #[derive(Clone, Copy, Debug, PartialEq, Eq)]
 pub enum Reason {
     /// It has more than 9,216 octets.
@@ -74,7 +74,7 @@ pub struct Handled {
     pub what: What,
     /// The extended sequence numbers of the packets that were repaired by it: none.
     pub repaired: Numbers,
-    /// The feedback that is to be sent: none.
+    /// The feedback that is to be sent.
     pub feedback: Feedback,
 }
 

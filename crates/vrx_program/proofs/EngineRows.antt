@@ -1,7 +1,9 @@
 -- The machine over VP8 on rows worked by hand.
-use Rattle.std.specs.Prelude.{◌≡◌, ℕ, true, false, List, [], ◌∷◌, refl, None}
-use Rattle.vrx_core.specs.machine.Machine.{Reply, no_feedback, ToDatagram, ToTick, ToPull, replies, reply, snapshots}
+use Rattle.std.specs.Prelude.{◌≡◌, ℕ, true, false, List, [], ◌∷◌, refl, Some, None}
+use Rattle.vrx_core.specs.machine.Machine.{Reply, ToDatagram, ToTick, ToPull, what_in, replies, reply, snapshots}
+use Rattle.vrx_rtcp.specs.Feedback.{nack_octets}
 use Rattle.vrx_vp8.specs.Descriptor.{vp8}
+use Rattle.vrx_rtcp.specs.declared.feedback.Feedback.{Feedback}
 use Rattle.vrx_core.specs.declared.settings.Settings.{Settings}
 use Rattle.vrx_core.specs.declared.event.Event.TheVariants.{Datagram, Tick, Pull}
 use Rattle.vrx_core.specs.declared.reply.What.{What}
@@ -12,6 +14,10 @@ use Rattle.vrx_core.specs.declared.reply.Pulled.TheVariants.{NotReady, Frame}
 abbrev settings : Settings
 settings = record { media_ssrc = 10; media_type = 96; red = None; rtx = None; from_ssrc = 11; interval = 100 }
 
+-- no feedback is to be sent
+abbrev no_feedback : Feedback
+no_feedback = record { nack = None; pli = None }
+
 -- a reply to a datagram that repairs nothing and sends no feedback
 abbrev answered : What → Reply
 answered what = ToDatagram (record { what = what; repaired = []; feedback = no_feedback })
@@ -19,6 +25,16 @@ answered what = ToDatagram (record { what = what; repaired = []; feedback = no_f
 -- 80e00001000000000000000a1000aa
 abbrev keyframe : List ℕ
 keyframe = 128 ∷ 224 ∷ 0 ∷ 1 ∷ 0 ∷ 0 ∷ 0 ∷ 0 ∷ 0 ∷ 0 ∷ 0 ∷ 10 ∷ 16 ∷ 0 ∷ 170 ∷ []
+
+-- and to one that asks for these numbers
+abbrev asking : What → List ℕ → Reply
+asking what numbers = ToDatagram
+    (record {
+      what = what;
+      repaired = [];
+      feedback =
+          record { nack = Some (record { items = nack_octets 11 10 numbers }); pli = None };
+    })
 
 -- a keyframe comes out as a frame, once
 pub one_keyframe : replies settings vp8 []
@@ -39,7 +55,7 @@ pub pull_alone : replies settings vp8 [] (Pull 0 ∷ []) ≡ ToPull NotReady ∷
 unfolding replies reply snapshots
 pull_alone = refl
 
--- a tick between them changes nothing of what a pull gives
+-- ticks among them ask for nothing: no packet is missing, and a keyframe completed
 pub with_ticks : replies settings vp8 [] (Tick 0 ∷ Datagram 0 keyframe ∷ Tick 5 ∷ Pull 1 ∷ Tick 2 ∷ [])
     ≡ ToTick no_feedback ∷ answered (Media 65537) ∷ ToTick no_feedback ∷ ToPull
     (Frame (record { first = 65537; last = 65537; ts = 0; key = true; bytes = 0 ∷ 170 ∷ [] })) ∷ ToTick no_feedback
@@ -52,11 +68,15 @@ abbrev numbered : ℕ → ℕ → List ℕ
 numbered high low = 128 ∷ 224 ∷ high ∷ low ∷ 0 ∷ 0 ∷ 0 ∷ 0 ∷ 0 ∷ 0 ∷ 0 ∷ 10 ∷ 16 ∷ 0 ∷ 170 ∷ []
 
 -- a packet 32,768 ahead of the newest has no number, and one 32,767 ahead has
-pub too_far : replies settings vp8 []
-    (Datagram 0 (numbered 0 1) ∷ Datagram 0 (numbered 128 1) ∷ Datagram 0 (numbered 128 0) ∷ [])
-    ≡ answered (Media 65537) ∷ answered (Dropped TooFar) ∷ answered (Media 98304) ∷ []
+pub too_far : replies settings vp8 [] (Datagram 0 (numbered 0 1) ∷ Datagram 0 (numbered 128 1) ∷ []) ≡ answered
+    (Media 65537) ∷ answered (Dropped TooFar) ∷ []
 unfolding replies reply snapshots
 too_far = refl
+
+pub not_too_far : what_in (reply settings vp8 (Datagram 0 (numbered 0 1) ∷ []) (Datagram 0 (numbered 128 0))) ≡ Some
+    (Media 98304)
+unfolding reply snapshots
+not_too_far = refl
 
 -- a packet 2,048 below the newest is too old, and one 2,047 below isn't
 pub too_old : replies settings vp8 []
@@ -80,7 +100,8 @@ pub payloads : replies settings vp8 []
 unfolding replies reply snapshots
 payloads = refl
 
--- a packet of padding only, between a keyframe that was pulled and a delta frame: the delta frame follows over it
+-- a packet of padding only, between a keyframe that was pulled and a delta frame: the receiver asks for it, and the
+-- delta frame follows over it
 abbrev padding_only : List ℕ
 padding_only = 160 ∷ 96 ∷ 0 ∷ 2 ∷ 0 ∷ 0 ∷ 0 ∷ 0 ∷ 0 ∷ 0 ∷ 0 ∷ 10 ∷ 0 ∷ 0 ∷ 0 ∷ 4 ∷ []
 
@@ -90,8 +111,8 @@ delta = 128 ∷ 224 ∷ 0 ∷ 3 ∷ 0 ∷ 0 ∷ 11 ∷ 184 ∷ 0 ∷ 0 ∷ 0 ∷
 pub over_empty : replies settings vp8 []
     (Datagram 0 keyframe ∷ Pull 1 ∷ Datagram 33 delta ∷ Pull 34 ∷ Datagram 35 padding_only ∷ Pull 36 ∷ [])
     ≡ answered (Media 65537) ∷ ToPull
-    (Frame (record { first = 65537; last = 65537; ts = 0; key = true; bytes = 0 ∷ 170 ∷ [] })) ∷ answered
-    (Media 65539) ∷ ToPull NotReady
+    (Frame (record { first = 65537; last = 65537; ts = 0; key = true; bytes = 0 ∷ 170 ∷ [] })) ∷ asking (Media 65539)
+    (65538 ∷ []) ∷ ToPull NotReady
     ∷ answered (Empty 65538) ∷ ToPull
     (Frame (record { first = 65539; last = 65539; ts = 3000; key = false; bytes = 1 ∷ 187 ∷ [] })) ∷ []
 unfolding replies reply snapshots

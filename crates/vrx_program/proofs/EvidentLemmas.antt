@@ -5,7 +5,7 @@ use Rattle.std.specs.Result.{result_ok}
 use Rattle.std.proofs.lemmas.Option.{none-some, same_Some, slice_get_within, slice_get-get_or}
 use Rattle.vrx_codec.specs.Part.{Part}
 use Rattle.vrx_codec.specs.declared.part.Start.{Start}
-use Rattle.vrx_codec.specs.declared.part.Start.TheVariants.{Yes, No, ByNeighbour}
+use Rattle.vrx_codec.specs.declared.part.Start.TheVariants.{Yes, No}
 use Rattle.vrx_vp8.specs.Descriptor.{Fields, fields, part_with, part_of, vp8}
 use Rattle.vrx_core.specs.honest.Sender.{SentFrame, SentPacket, Media, Empty, Sender, IsOf, Spans}
 use Rattle.vrx_core.specs.honest.HonestSender.{CarriedPart, SaysRightly, IsPart, AreParts, Travels, HonestSender}

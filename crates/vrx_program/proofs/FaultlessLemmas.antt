@@ -12,7 +12,7 @@ use Rattle.vrx_capture.specs.SettingsLine.{settings_in}
 use Rattle.vrx_capture.specs.declared.settings_line.CodecName.{CodecName}
 use Rattle.vrx_text.specs.declared.transcript.ErrorReason.{ErrorReason}
 use Rattle.vrx_text.specs.declared.transcript.ErrorReason.TheVariants as errors
-use Rattle.vrx_program.specs.Replay.{unless_fault, settings_or_reason, settings_of, Call, call_with, call_from, call_in, call_of}
+use Rattle.vrx_program.specs.Replay.{unless_fault, settings_or_reason, settings_of, Call, call_from, call_in, call_of}
 
 -- a result that is an error is no value
 no_value : {A : Type 0} (reason : ErrorReason) (x : A) → ◌≡◌ {A = Result A ErrorReason} (Err reason) (Ok x) → ⊥

@@ -10,7 +10,6 @@ use Rattle.vrx_core.specs.honest.HonestNetwork.{Origin, HonestNetwork}
 use Rattle.vrx_core.specs.honest.HonestCall.{HonestCallHolds}
 use Rattle.vrx_core.specs.declared.settings.Settings.{Settings}
 use Rattle.vrx_core.specs.declared.event.Event.{Event}
-use Rattle.vrx_core.specs.declared.event.Event.TheVariants.{Datagram, Tick, Pull}
 use Rattle.vrx_capture.specs.Line.{lines_of, line_at}
 use Rattle.vrx_capture.specs.Reading.{Reading, event_count, with_line, reading}
 use Rattle.vrx_capture.specs.Reader.{AreWhole}
@@ -21,7 +20,7 @@ use Rattle.vrx_text.specs.declared.transcript.ErrorReason.{ErrorReason}
 use Rattle.vrx_text.specs.Transcript.{text_of, transcript}
 use Rattle.vrx_program.specs.Outcome.{text_of_outcome, error_text, refusal}
 use Rattle.vrx_capture.specs.declared.settings_line.CodecName.{CodecName}
-use Rattle.vrx_program.specs.Replay.{meaning_of, settings_of, most_events, before_tick, Call, call_with, call_from, call_in, call_of, outcome_of, replay_outcome}
+use Rattle.vrx_program.specs.Replay.{meaning_of, settings_of, most_events, Call, call_with, call_from, call_in, call_of, outcome_of, replay_outcome}
 use Rattle.vrx_program.specs.Ends.{TookPrefix, TookLines, Ends, EndsOver}
 use Rattle.vrx_program.specs.Job.{history_after}
 use Rattle.vrx_program.specs.HonestLines.{events_of, IsHonestCapture, lines_text, call_text, HonestLines}
@@ -63,28 +62,17 @@ reading-front max k events (line ∷ lines) others = let kind : LineKind = line_
     (reading max (k + 1) (events + event_count kind) (lines ++ others))
     (reading-front max (k + 1) (events + event_count kind) lines others)
 
-before_tick-front : (events more : List (ℕ × Event)) →
-    (rest : List (ℕ × Event)) × (before_tick (events ++ more) ≡ before_tick events ++ rest)
-before_tick-front [] more = (before_tick more, refl)
-before_tick-front ((k, Tick moment) ∷ events) more = ([], refl)
-before_tick-front ((k, Datagram moment octets) ∷ events) more = let rest =
-    before_tick-front events more in (rest.0, ap (λ e. (k, Datagram moment octets) ∷ e) rest.1)
-before_tick-front ((k, Pull moment) ∷ events) more = let rest =
-    before_tick-front events more in (rest.0, ap (λ e. (k, Pull moment) ∷ e) rest.1)
-
 call-front : (first : CodecName × Settings) (r whole : Reading) →
     (more : List (ℕ × Event)) × (whole.events ≡ r.events ++ more) →
     Leads (outcome_of (Ok (call_with first r))).text (text_of_outcome (outcome_of (Ok (call_with first whole))))
 call-front first r whole (more, is) =
-    let rest = before_tick-front r.events more in
-    let told : List ℕ = transcript first.1 (meaning_of first.0) [] (before_tick r.events) in
-    let behind : List ℕ = transcript first.1 (meaning_of first.0) (history_after [] (before_tick r.events)) rest.0 in
+    let told : List ℕ = transcript first.1 (meaning_of first.0) [] r.events in
+    let behind : List ℕ = transcript first.1 (meaning_of first.0) (history_after [] r.events) more in
     let last : List ℕ = error_text (call_with first whole).bad in (
       behind ++ last,
       ap (λ t. t ++ last)
-          (ap (transcript first.1 (meaning_of first.0) []) (ap before_tick is ∙ rest.1)
-          ∙ transcript-more (meaning_of first.0) first.1 [] (before_tick r.events) rest.0)
-          ∙ append_assoc told behind last,
+          (ap (transcript first.1 (meaning_of first.0) []) is
+          ∙ transcript-more (meaning_of first.0) first.1 [] r.events more) ∙ append_assoc told behind last,
     )
 
 lines-front : (lines others : List (List ℕ)) →

@@ -7,12 +7,13 @@ use Rattle.std.proofs.lemmas.List.Elements.{All-nil, All-from_recursion}
 use Rattle.vrx_num.specs.Octets.{AreOctets}
 use Rattle.vrx_core.specs.honest.WireForm.{IsPadded, IsEmptyPacket}
 use Rattle.vrx_vp8.specs.Descriptor.{vp8}
-use Rattle.vrx_core.specs.machine.Machine.{Reply, no_feedback, ToDatagram, ToTick, ToPull, replies, reply, snapshots}
-use Rattle.vrx_core.specs.honest.Sender.{SentFrame, SentPacket, Media, Empty, Sender}
+use Rattle.vrx_core.specs.machine.Machine.{Reply, ToDatagram, ToTick, ToPull, replies, reply, snapshots}
+use Rattle.vrx_core.specs.honest.Sender.{SentFrame, Media, Empty, Sender}
 use Rattle.vrx_codec.specs.declared.part.Start.TheVariants.{Yes, No}
 use Rattle.vrx_core.specs.honest.Chain.{InChain}
 use Rattle.vrx_core.specs.honest.HonestSender.{CarriedPart, IsPart, Travels, HonestSender}
 use Rattle.vrx_core.specs.honest.HonestNetwork.{Origin, FromSender, Elsewhere, HonestNetwork, packets_taken}
+use Rattle.vrx_rtcp.specs.declared.feedback.Feedback.{Feedback}
 use Rattle.vrx_core.specs.declared.settings.Settings.{Settings}
 use Rattle.vrx_core.specs.declared.event.Event.{Event}
 use Rattle.vrx_core.specs.declared.event.Event.TheVariants.{Datagram, Tick, Pull}
@@ -24,6 +25,22 @@ use Rattle.vrx_core.specs.declared.reply.Pulled.TheVariants.{NotReady, Frame}
 
 abbrev settings : Settings
 settings = record { media_ssrc = 10; media_type = 96; red = None; rtx = None; from_ssrc = 11; interval = 100 }
+
+-- no feedback is to be sent
+abbrev no_feedback : Feedback
+no_feedback = record { nack = None; pli = None }
+
+-- a PLI alone (RFC 4585 6.3.1)
+abbrev asks_for_key : Feedback
+asks_for_key = record { nack = None; pli = Some (129 ∷ 206 ∷ 0 ∷ 2 ∷ 0 ∷ 0 ∷ 0 ∷ 11 ∷ 0 ∷ 0 ∷ 0 ∷ 10 ∷ []) }
+
+-- a NACK of the number 65,537 alone, whose lowest 16 bits are 1 (RFC 4585 6.2.1)
+abbrev asks_for_empty : Feedback
+asks_for_empty = record {
+  nack = Some (record { items = 129 ∷ 205 ∷ 0 ∷ 3 ∷ 0 ∷ 0 ∷ 0 ∷ 11 ∷ 0 ∷ 0 ∷ 0 ∷ 10 ∷ 0 ∷ 1 ∷ 0 ∷ 0 ∷ [] });
+  pli =
+      None;
+}
 
 -- a reply to a datagram that repairs nothing and sends no feedback
 abbrev answered : What → Reply
@@ -50,7 +67,8 @@ abbrev sender : Sender
 sender = record {
   first_wire = 65535;
   frames = first_frame ∷ second_frame ∷ [];
-  packets = Media 0 0 first_text ∷ Media 0 1 second_text ∷ Empty ∷ Media 1 0 third_text ∷ [];
+  packets =
+      Media 0 0 first_text ∷ Media 0 1 second_text ∷ Empty ∷ Media 1 0 third_text ∷ [];
 }
 
 -- what the packets carry
@@ -65,7 +83,8 @@ first_part = record {
     ssrc = 10;
     csrc = [];
     extension = None;
-    payload = 16 ∷ 0 ∷ 170 ∷ [];
+    payload =
+        16 ∷ 0 ∷ 170 ∷ [];
     padding = 0;
   };
   part = record { start = Yes; key = true; layers = None; body = 0 ∷ 170 ∷ [] };
@@ -82,7 +101,8 @@ second_part = record {
     ssrc = 10;
     csrc = [];
     extension = None;
-    payload = 0 ∷ 187 ∷ [];
+    payload =
+        0 ∷ 187 ∷ [];
     padding = 0;
   };
   part = record { start = No; key = false; layers = None; body = 187 ∷ [] };
@@ -99,7 +119,8 @@ third_part = record {
     ssrc = 10;
     csrc = [];
     extension = None;
-    payload = 16 ∷ 1 ∷ 204 ∷ [];
+    payload =
+        16 ∷ 1 ∷ 204 ∷ [];
     padding = 0;
   };
   part = record { start = Yes; key = false; layers = None; body = 1 ∷ 204 ∷ [] };
@@ -123,7 +144,8 @@ first_is = record {
     reads = refl;
     no_padding = refl;
     number = refl;
-    type = refl;
+    type =
+        refl;
     source = refl;
     payload = λ e. cc;
     part_reads = refl;
@@ -143,7 +165,8 @@ second_is = record {
     reads = refl;
     no_padding = refl;
     number = refl;
-    type = refl;
+    type =
+        refl;
     source = refl;
     payload = λ e. cc;
     part_reads = refl;
@@ -163,7 +186,8 @@ third_is = record {
     reads = refl;
     no_padding = refl;
     number = refl;
-    type = refl;
+    type =
+        refl;
     source = refl;
     payload = λ e. cc;
     part_reads = refl;
@@ -275,7 +299,8 @@ third_is_padded = record {
     ssrc = 10;
     csrc = [];
     extension = None;
-    payload = 16 ∷ 1 ∷ 204 ∷ [];
+    payload =
+        16 ∷ 1 ∷ 204 ∷ [];
     padding = 3;
   };
   reads = refl;
@@ -351,13 +376,15 @@ network-honest = (
   ),
 )
 
--- the padded datagram is taken, and the same without padding is a repeat. The last frame waits until the empty packet
+-- The tick asks for a keyframe, since a packet was taken and no keyframe completed. The padded datagram is taken, and
+-- asks for the empty packet before it; the same without padding is a repeat. The last frame waits until the empty packet
 -- came, which is passed over; and the frame has no padding octet
 pub padded_taken : replies settings vp8 [] events
-    ≡ answered (what.Media 65536) ∷ answered (Dropped NotRtp) ∷ ToPull NotReady ∷ ToTick no_feedback ∷ answered
+    ≡ answered (what.Media 65536) ∷ answered (Dropped NotRtp) ∷ ToPull NotReady ∷ ToTick asks_for_key ∷ answered
     (what.Media 65535) ∷ answered (Dropped Repeat)
     ∷ ToPull (Frame (record { first = 65535; last = 65536; ts = 0; key = true; bytes = 0 ∷ 170 ∷ 187 ∷ [] }))
-    ∷ answered (what.Media 65538) ∷ answered (Dropped Repeat) ∷ ToPull NotReady
+    ∷ ToDatagram (record { what = what.Media 65538; repaired = []; feedback = asks_for_empty }) ∷ answered
+    (Dropped Repeat) ∷ ToPull NotReady
     ∷ answered (what.Empty 65537) ∷ ToPull
     (Frame (record { first = 65538; last = 65538; ts = 9; key = false; bytes = 1 ∷ 204 ∷ [] })) ∷ []
 unfolding replies reply snapshots

@@ -69,5 +69,6 @@ module _ {S : Type 0} (is_read : S → List ℕ → S → Type 0) where
       record {
         reads = reads.reads;
         were = shift allow wide [] kept old new reads.reads weaker reads.were;
-        octets = reads.octets;
+        octets =
+            reads.octets;
       }

@@ -1,6 +1,5 @@
 -- What an inspection does with the events of a capture, and when its first line is refused.
 use Rattle.std.proofs.Common.{◌≡◌, ℕ, ◌<◌, ◌≤◌, cond, true, false, List, [], ◌∷◌, ◌++◌, length, refl, ap, ◌∙◌}
-use Rattle.std.specs.Prelude.{Option, None}
 use Rattle.std.specs.Option.{option_map}
 use Rattle.std.proofs.lemmas.Bool.{lt-ltb, le-ltb}
 use Rattle.vrx_core.specs.declared.event.Event.{Event}
@@ -8,11 +7,10 @@ use Rattle.vrx_capture.specs.Line.{lines_of, longest_line}
 use Rattle.vrx_capture.specs.SettingsLine.{settings_in}
 use Rattle.vrx_capture.specs.Reading.{Reading, reading}
 use Rattle.vrx_capture.specs.Reader.{HasNoHead}
-use Rattle.vrx_text.specs.declared.transcript.ErrorReason.{ErrorReason}
 use Rattle.vrx_text.specs.declared.transcript.ErrorReason.TheVariants as errors
 use Rattle.vrx_program.specs.Heads.{RefusesHeads}
-use Rattle.vrx_program.specs.Outcome.{Outcome, status_of, error_text, refusal}
-use Rattle.vrx_program.specs.Job.{most_events, texts, accepted_events, first_refusal, last_line, bad_line, reading_outcome, Begins, IsRefused}
+use Rattle.vrx_program.specs.Outcome.{status_of, error_text, refusal}
+use Rattle.vrx_program.specs.Job.{most_events, texts, bad_line, reading_outcome, Begins, IsRefused}
 use Rattle.vrx_program.specs.Inspect.{has_right_settings, is_head, inspected_event, inspections, inspected_reading, inspected_from, inspected_lines, inspection_outcome, inspecting}
 
 -- ---- the events
@@ -22,27 +20,13 @@ unfolding inspections texts
 texts-are h [] = refl
 texts-are h ((k, event) ∷ events) = ap (λ t. inspected_event k event ++ t) (texts-are (event ∷ h) events)
 
-settings_or_reason-are : (events : List (ℕ × Event)) → events ≡ accepted_events inspecting events
-settings_or_reason-are [] = refl
-settings_or_reason-are ((k, event) ∷ events) = ap (λ l. (k, event) ∷ l) (settings_or_reason-are events)
-
-none-refusal : (events : List (ℕ × Event)) → None ≡ first_refusal inspecting events
-none-refusal [] = refl
-none-refusal ((k, event) ∷ events) = none-refusal events
-
 outcome-is : (r : Reading) → inspected_reading r ≡ reading_outcome inspecting r
-outcome-is r =
-    ap (λ o. record {
-      status = status_of (last_line o r.bad);
-      text = inspections r.events;
-      last = error_text (last_line o r.bad);
-    }) (none-refusal r.events)
-    ∙ ap (λ t. record {
-      status = status_of (last_line (first_refusal inspecting r.events) r.bad);
-      text = t;
-      last = error_text (last_line (first_refusal inspecting r.events) r.bad);
-    })
-    (ap inspections (settings_or_reason-are r.events) ∙ texts-are [] (accepted_events inspecting r.events))
+outcome-is r = ap (λ t. record {
+  status = status_of (option_map bad_line r.bad);
+  text = t;
+  last =
+      error_text (option_map bad_line r.bad);
+}) (texts-are [] r.events)
 
 -- the first line is right
 pub inspect-begins : (line : List ℕ) → is_head line ≡ true → Begins inspection_outcome line inspecting

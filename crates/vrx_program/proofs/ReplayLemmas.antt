@@ -1,18 +1,17 @@
 -- What a replay does with the events of a capture, and when its first line is refused.
 use Rattle.std.proofs.Common.{◌≡◌, ℕ, ◌<◌, ◌≤◌, cond, List, [], ◌∷◌, ◌++◌, length, refl, sym, ap, ◌∙◌, append_assoc}
-use Rattle.std.specs.Prelude.{Option, Some, None, Ok, Err}
+use Rattle.std.specs.Prelude.{Ok, Err}
+use Rattle.std.specs.Option.{option_map}
 use Rattle.std.proofs.lemmas.Bool.{lt-ltb, le-ltb}
 use Rattle.vrx_codec.specs.Meaning.{Meaning}
 use Rattle.vrx_core.specs.machine.Machine.{reply}
 use Rattle.vrx_core.specs.declared.settings.Settings.{Settings}
 use Rattle.vrx_core.specs.declared.event.Event.{Event}
-use Rattle.vrx_core.specs.declared.event.Event.TheVariants.{Datagram, Tick, Pull}
 use Rattle.vrx_capture.specs.Line.{lines_of, longest_line}
 use Rattle.vrx_capture.specs.SettingsLine.{settings_in}
 use Rattle.vrx_capture.specs.Reading.{Reading, reading}
 use Rattle.vrx_capture.specs.Reader.{HasNoHead}
 use Rattle.vrx_text.specs.Transcript.{text_of, transcript}
-use Rattle.vrx_capture.specs.declared.line.LineReason.{LineReason}
 use Rattle.vrx_capture.specs.declared.settings_line.CodecName.{CodecName}
 use Rattle.vrx_text.specs.declared.transcript.ErrorReason.{ErrorReason}
 use Rattle.vrx_text.specs.declared.transcript.ErrorReason.TheVariants as errors
@@ -20,9 +19,9 @@ use Rattle.vrx_core.specs.machine.SettingsFault.{fault_of}
 use Rattle.vrx_program.specs.declared.job.Unanswered.{Unanswered}
 use Rattle.vrx_program.specs.declared.job.Unanswered.TheVariants as unanswered
 use Rattle.vrx_program.specs.Heads.{RefusesHeads}
-use Rattle.vrx_program.specs.Outcome.{Outcome, status_of, error_text, refusal}
-use Rattle.vrx_program.specs.Job.{history_after, texts, accepted_events, first_refusal, last_line, reading_outcome, Begins, IsRefused, IfRefused}
-use Rattle.vrx_program.specs.Replay.{meaning_of, settings_of, unless_fault, settings_or_reason, most_events, before_tick, first_tick, first_refused, call_from, call_in, outcome_of, replay_outcome, replaying}
+use Rattle.vrx_program.specs.Outcome.{status_of, error_text, refusal}
+use Rattle.vrx_program.specs.Job.{history_after, texts, bad_line, reading_outcome, Begins, IsRefused, IfRefused}
+use Rattle.vrx_program.specs.Replay.{meaning_of, settings_of, unless_fault, settings_or_reason, most_events, call_from, call_in, outcome_of, replay_outcome, replaying}
 
 -- the text of events, and then of more
 pub transcript-more : (codec : Meaning) (settings : Settings) (h : List Event) (events more : List (ℕ × Event)) →
@@ -45,41 +44,19 @@ module _ (settings : Settings) (codec : Meaning) where
   texts-are h ((k, event) ∷ events) =
       ap (λ t. text_of k (reply settings codec h event) ++ t) (texts-are (event ∷ h) events)
 
-  settings_or_reason-are : (events : List (ℕ × Event)) →
-      before_tick events ≡ accepted_events (replaying settings codec) events
-  settings_or_reason-are [] = refl
-  settings_or_reason-are ((k, Datagram moment octets) ∷ events) =
-      ap (λ l. (k, Datagram moment octets) ∷ l) (settings_or_reason-are events)
-  settings_or_reason-are ((k, Tick moment) ∷ events) = refl
-  settings_or_reason-are ((k, Pull moment) ∷ events) = ap (λ l. (k, Pull moment) ∷ l) (settings_or_reason-are events)
-
-  last-is : (events : List (ℕ × Event)) (bad : Option (ℕ × LineReason)) →
-      first_refused (first_tick events) bad ≡ last_line (first_refusal (replaying settings codec) events) bad
-  last-is [] None = refl
-  last-is [] (Some (k, reason)) = refl
-  last-is ((k, Datagram moment octets) ∷ events) bad = last-is events bad
-  last-is ((k, Tick moment) ∷ events) bad = refl
-  last-is ((k, Pull moment) ∷ events) bad = last-is events bad
-
   outcome-is : (r : Reading) →
       record {
-        status = status_of (first_refused (first_tick r.events) r.bad);
-        text = transcript settings codec [] (before_tick r.events);
-        last = error_text (first_refused (first_tick r.events) r.bad);
+        status = status_of (option_map bad_line r.bad);
+        text = transcript settings codec [] r.events;
+        last =
+            error_text (option_map bad_line r.bad);
       } ≡ reading_outcome (replaying settings codec) r
-  outcome-is r =
-      ap (λ b. record {
-        status = status_of b;
-        text = transcript settings codec [] (before_tick r.events);
-        last = error_text b;
-      }) (last-is r.events r.bad)
-      ∙ ap (λ t. record {
-        status = status_of (last_line (first_refusal (replaying settings codec) r.events) r.bad);
-        text = t;
-        last = error_text (last_line (first_refusal (replaying settings codec) r.events) r.bad);
-      })
-      (ap (transcript settings codec []) (settings_or_reason-are r.events)
-      ∙ texts-are [] (accepted_events (replaying settings codec) r.events))
+  outcome-is r = ap (λ t. record {
+    status = status_of (option_map bad_line r.bad);
+    text = t;
+    last =
+        error_text (option_map bad_line r.bad);
+  }) (texts-are [] r.events)
 
 -- the first line tells settings that are taken
 pub replay-begins : (line : List ℕ) (name : CodecName) (settings : Settings) →

@@ -91,7 +91,8 @@ abbrev sender : Sender
 sender = record {
   first_wire = 1;
   frames = keyframe ∷ [];
-  packets = Media 0 0 first_text ∷ Media 0 1 second_text ∷ Media 0 2 third_text ∷ [];
+  packets =
+      Media 0 0 first_text ∷ Media 0 1 second_text ∷ Media 0 2 third_text ∷ [];
 }
 
 abbrev settings : Settings
@@ -109,7 +110,8 @@ first_part = record {
     ssrc = 10;
     csrc = [];
     extension = None;
-    payload = 16 ∷ 0 ∷ 170 ∷ [];
+    payload =
+        16 ∷ 0 ∷ 170 ∷ [];
     padding = 0;
   };
   part = record { start = Yes; key = true; layers = None; body = 0 ∷ 170 ∷ [] };
@@ -126,7 +128,8 @@ second_part = record {
     ssrc = 10;
     csrc = [];
     extension = None;
-    payload = 0 ∷ 187 ∷ [];
+    payload =
+        0 ∷ 187 ∷ [];
     padding = 0;
   };
   part = record { start = No; key = false; layers = None; body = 187 ∷ [] };
@@ -143,7 +146,8 @@ third_part = record {
     ssrc = 10;
     csrc = [];
     extension = None;
-    payload = 0 ∷ 204 ∷ [];
+    payload =
+        0 ∷ 204 ∷ [];
     padding = 0;
   };
   part = record { start = No; key = false; layers = None; body = 204 ∷ [] };
@@ -168,7 +172,8 @@ first_is = record {
     reads = refl;
     no_padding = refl;
     number = refl;
-    type = refl;
+    type =
+        refl;
     source = refl;
     payload = λ e. cc;
     part_reads = refl;
@@ -188,7 +193,8 @@ second_is = record {
     reads = refl;
     no_padding = refl;
     number = refl;
-    type = refl;
+    type =
+        refl;
     source = refl;
     payload = λ e. cc;
     part_reads = refl;
@@ -208,7 +214,8 @@ third_is = record {
     reads = refl;
     no_padding = refl;
     number = refl;
-    type = refl;
+    type =
+        refl;
     source = refl;
     payload = λ e. cc;
     part_reads = refl;

@@ -1,6 +1,7 @@
 -- What each call of the reader and each event add to a run, and how a run ends.
 use Rattle.std.proofs.Common.{◌≡◌, ◌⊎◌, ◌≤◌, ℕ, true, false, List, [], ◌∷◌, ◌++◌, length, take, refl, sym, ap, subst, ◌∙◌, inl, inr, append_assoc, append-nil, arith}
 use Rattle.std.specs.Prelude.{Option, Some, None, Ok, is_some, MatchOption}
+use Rattle.std.specs.Option.{option_map}
 use Rattle.vrx_io.specs.Sink.{with_more}
 use Rattle.vrx_io.specs.Reads.{ReadsSo}
 use Rattle.vrx_core.specs.declared.event.Event.{Event}
@@ -17,7 +18,7 @@ use Rattle.vrx_text.specs.declared.transcript.ErrorReason.TheVariants as errors
 use Rattle.vrx_program.specs.HasRead.{HasRead}
 use Rattle.vrx_program.specs.Heads.{RefusesHeads}
 use Rattle.vrx_program.specs.Outcome.{Outcome, text_of_outcome, error_text}
-use Rattle.vrx_program.specs.Job.{Answering, most_events, history_after, texts, accepted_events, first_refusal, last_line, reading_outcome, Begins, IsRefused}
+use Rattle.vrx_program.specs.Job.{Answering, most_events, history_after, texts, bad_line, reading_outcome, Begins, IsRefused}
 use Rattle.vrx_program.specs.Ends.{TookPrefix, EndsOver, EndsBadly, EndsAmid}
 use Rattle.vrx_program.specs.Runs.{IsWritten, ReadsInStep, IsRunning, IsOver, IsAnswered}
 use Rattle.vrx_program.specs.declared.status.Status.{Status}
@@ -25,7 +26,7 @@ use Rattle.vrx_program.specs.declared.status.Status.TheVariants as statuses
 use Rattle.vrx_program.proofs.TextLemmas.{with_more-none, with_more-twice, took-more, ends-badly, ends-amid, take-all}
 use Rattle.vrx_program.proofs.ReadsLemmas.{ahead-twice, whole-both, reads-on, reads-end, reads-front, reads-bad, reads-fault, reads-quiet}
 use Rattle.vrx_program.proofs.HeadLemmas.{head-read, ends-none, ends-unread, ends-refusal}
-use Rattle.vrx_program.proofs.JobLemmas.{history-more, texts-next, refused-next, reading_outcome-front, reading_outcome-all, reading_outcome-bad, reading_outcome-refused}
+use Rattle.vrx_program.proofs.JobLemmas.{history-more, texts-next, reading_outcome-front}
 use Rattle.vrx_program.proofs.InStepLemmas.{reads_nothing, reads_both, reads_weaker}
 
 -- ---- what the sink took in an ending
@@ -102,7 +103,8 @@ module _ {S : Type 0} (outcome : List ℕ → Outcome) (is_read : S → List ℕ
     in_step = record {
       read = [];
       source = ahead-none (left source);
-      reads = reads_nothing is_read (IsWritten outcome sink sink) [] source;
+      reads =
+          reads_nothing is_read (IsWritten outcome sink sink) [] source;
     };
   } where
     over : (o : Option (List ℕ)) → EndsOver outcome statuses.NoMemory o sink (left source) sink
@@ -177,7 +179,6 @@ module _ {S : Type 0} (outcome : List ℕ → Outcome) (is_read : S → List ℕ
             begins = begins;
             events = [];
             read = r.0;
-            accepted = refl;
             history = history;
             wrote = sym (with_more-none sink);
             reads = subst (λ octets. ReadsSo is_read (IsWritten outcome sink sink) [] start now octets) r.1
@@ -216,7 +217,7 @@ module _ {S : Type 0} (outcome : List ℕ → Outcome) (is_read : S → List ℕ
       gives : outcome (p.read.gone ++ s.lines)
           ≡ record { status = statuses.Done; text = texts job [] p.events; last = [] }
       gives = p.begins (p.read.gone ++ s.lines) (p.read.others ++ lines_of s.lines) quiet.0
-          ∙ ap (reading_outcome job) quiet.1 ∙ reading_outcome-all job p.events p.accepted
+          ∙ ap (reading_outcome job) quiet.1
 
     -- all that was read, in step
     all-reads : ReadsSo is_read (IsWritten outcome sink taken) [] start
@@ -254,11 +255,11 @@ module _ {S : Type 0} (outcome : List ℕ → Outcome) (is_read : S → List ℕ
               reads-front lines_join readings_join most_events (left start) p.first old
               (left now) p.events p.read capture is in
               let told : List ℕ = texts job [] p.events in
-              let more : List ℕ = texts job (history_after [] p.events) (accepted_events job f.2.events) in
-              let last_text : List ℕ = error_text (last_line (first_refusal job f.2.events) f.2.bad) in
+              let more : List ℕ = texts job (history_after [] p.events) f.2.events in
+              let last_text : List ℕ = error_text (option_map bad_line f.2.bad) in
               let text : text_of_outcome (outcome capture) ≡ told ++ (more ++ last_text) =
               ap text_of_outcome (p.begins capture f.0 f.1 ∙ ap (reading_outcome job) f.3
-              ∙ reading_outcome-front job p.events f.2 p.accepted) ∙ append_assoc told more last_text in
+              ∙ reading_outcome-front job p.events f.2) ∙ append_assoc told more last_text in
               subst (TookPrefix sink taken) (sym text)
               (took-more sink taken told (more ++ last_text)
               (length told, p.wrote ∙ ap (with_more sink) (sym (take-all told))))
@@ -283,7 +284,6 @@ module _ {S : Type 0} (outcome : List ℕ → Outcome) (is_read : S → List ℕ
 
             gives : outcome r.gone ≡ record { status = statuses.Done; text = texts job [] p.events; last = [] }
             gives = p.begins r.gone r.others r.lines ∙ ap (reading_outcome job) r.gives
-                ∙ reading_outcome-all job p.events p.accepted
 
             over : (o : Option (List ℕ)) → left start ≡ o →
                 EndsOver outcome statuses.ReadFault o sink (left then) taken
@@ -313,8 +313,7 @@ module _ {S : Type 0} (outcome : List ℕ → Outcome) (is_read : S → List ℕ
                 (left then) p.events quiet-now kept ended capture is in
                 let gives : outcome capture
                 ≡ record { status = statuses.Done; text = texts job [] p.events; last = [] } =
-                p.begins capture all.0 all.1 ∙ ap (reading_outcome job) all.2
-                ∙ reading_outcome-all job p.events p.accepted in (
+                p.begins capture all.0 all.1 ∙ ap (reading_outcome job) all.2 in (
                   ap (λ (o : Outcome). o.status) gives,
                   p.wrote
                       ∙ ap (with_more sink) (sym (ap text_of_outcome gives ∙ append-nil (texts job [] p.events))),
@@ -338,9 +337,9 @@ module _ {S : Type 0} (outcome : List ℕ → Outcome) (is_read : S → List ℕ
               ≡ record {
                 status = statuses.BadCapture;
                 text = texts job [] p.events;
-                last = error_line bad.0 (errors.Line bad.1);
-              } = p.begins capture b.0 b.1 ∙ ap (reading_outcome job) b.2
-              ∙ reading_outcome-bad job p.events bad p.accepted in
+                last =
+                    error_line bad.0 (errors.Line bad.1);
+              } = p.begins capture b.0 b.1 ∙ ap (reading_outcome job) b.2 in
               ends-badly status outcome capture (texts job [] p.events)
               (error_line bad.0 (errors.Line bad.1)) sink taken last (left then)
               (ap (λ (o : Outcome). o.status) gives)
@@ -353,30 +352,11 @@ module _ {S : Type 0} (outcome : List ℕ → Outcome) (is_read : S → List ℕ
       event-read = reads-on lines_join readings_join most_events (left start) p.first old new (left now)
           (left then) p.events ((k, event) ∷ []) p.read passes next.0 next.1 next.3
 
-      -- it is refused
-      pub over-event : (reason : ErrorReason) (status : Status) (last : Option (List ℕ)) →
-          job.refuses event ≡ Some reason → EndsBadly status (error_line k reason) taken last →
-          IsOver outcome is_read left start then sink last status
-      over-event reason status last refuses ends = let grown =
-          grown-badly status (error_line k reason) taken last ends in
-          record { ends = over (left start) refl; in_step = in-step last grown.0 grown.1 } where
-            over : (o : Option (List ℕ)) → left start ≡ o → EndsOver outcome status o sink (left then) last
-            over None is = tt
-            over (Some capture) is =
-                let f = reads-front lines_join readings_join most_events (left start) p.first new (left then)
-                (p.events ++ (k, event) ∷ []) event-read.0 capture is in
-                let gives : outcome capture
-                ≡ record { status = statuses.BadCapture; text = texts job [] p.events; last = error_line k reason } =
-                p.begins capture f.0 f.1 ∙ ap (reading_outcome job) f.3
-                ∙ reading_outcome-refused job p.events k event reason f.2 p.accepted refuses in
-                ends-badly status outcome capture (texts job [] p.events) (error_line k reason) sink taken last
-                (left then) (ap (λ (o : Outcome). o.status) gives) (ap text_of_outcome gives) p.wrote ends
-
       -- the run ends in its text
-      pub over-amid : (status : Status) (last : Option (List ℕ)) → job.refuses event ≡ None →
+      pub over-amid : (status : Status) (last : Option (List ℕ)) →
           EndsAmid status (job.text (history_after [] p.events) k event) taken last →
           IsOver outcome is_read left start then sink last status
-      over-amid status last accepts ends = let grown =
+      over-amid status last ends = let grown =
           grown-amid status (job.text (history_after [] p.events) k event) taken last ends in
           record { ends = over (left start) refl; in_step = in-step last grown.0 grown.1 } where
             over : (o : Option (List ℕ)) → left start ≡ o → EndsOver outcome status o sink (left then) last
@@ -387,11 +367,11 @@ module _ {S : Type 0} (outcome : List ℕ → Outcome) (is_read : S → List ℕ
                 (left then) all event-read.0 capture is in
                 let told : List ℕ = texts job [] p.events in
                 let text : List ℕ = job.text (history_after [] p.events) k event in
-                let more : List ℕ = texts job (history_after [] all) (accepted_events job f.2.events) in
-                let last_text : List ℕ = error_text (last_line (first_refusal job f.2.events) f.2.bad) in
+                let more : List ℕ = texts job (history_after [] all) f.2.events in
+                let last_text : List ℕ = error_text (option_map bad_line f.2.bad) in
                 let whole : text_of_outcome (outcome capture) ≡ told ++ (text ++ (more ++ last_text)) =
                 ap text_of_outcome (p.begins capture f.0 f.1 ∙ ap (reading_outcome job) f.3
-                ∙ reading_outcome-front job all f.2 (refused-next job p.events k event p.accepted accepts))
+                ∙ reading_outcome-front job all f.2)
                 ∙ append_assoc (texts job [] all) more last_text
                 ∙ ap (λ t. t ++ (more ++ last_text)) (texts-next job p.events k event)
                 ∙ append_assoc told text (more ++ last_text) in
@@ -399,16 +379,15 @@ module _ {S : Type 0} (outcome : List ℕ → Outcome) (is_read : S → List ℕ
                 (left then) whole p.wrote ends
 
       -- the run goes on
-      pub runs-on : (later : List Event → Type 0) (last : Option (List ℕ)) → job.refuses event ≡ None →
+      pub runs-on : (later : List Event → Type 0) (last : Option (List ℕ)) →
           later (event ∷ history_after [] p.events) →
           last ≡ with_more taken (job.text (history_after [] p.events) k event) →
           IsRunning outcome job later is_read left start then sink last new
-      runs-on later last accepts history wrote = record {
+      runs-on later last history wrote = record {
         first = p.first;
         begins = p.begins;
         events = p.events ++ (k, event) ∷ [];
         read = event-read.0;
-        accepted = refused-next job p.events k event p.accepted accepts;
         history = subst later (sym (history-more [] p.events k event)) history;
         wrote = wrote ∙ ap (λ m. with_more m (job.text (history_after [] p.events) k event)) p.wrote
             ∙ with_more-twice sink (texts job [] p.events) (job.text (history_after [] p.events) k event)
@@ -421,7 +400,5 @@ module _ {S : Type 0} (outcome : List ℕ → Outcome) (is_read : S → List ℕ
           IsAnswered job later (history_after [] p.events) k event status taken last
           → MatchOption status (IsRunning outcome job later is_read left start then sink last new)
           (λ s. IsOver outcome is_read left start then sink last s)
-      runs-next later None last is = runs-on later last is.0 is.1 is.2
-      runs-next later (Some status) last (inl refused) = over-event refused.0 status last refused.1 refused.2
-      runs-next later (Some status) last (inr (inl amid)) = over-amid status last amid.0 amid.1
-      runs-next later (Some status) last (inr (inr none)) = rw (none.0, none.1) over-memory
+      runs-next later None last is = runs-on later last is.0 is.1
+      runs-next later (Some status) last is = over-amid status last is

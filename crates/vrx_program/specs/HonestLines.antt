@@ -40,8 +40,9 @@ call_text call = lines_text call.events (replies_of call) ++ error_text call.bad
 
 -- what the sink took in a replay that ended so is the lines of the machine's replies, and these are an honest call:
 -- at its pulls the sender's frames, byte for byte, in order, each at most once, from a keyframe on, after all their
--- references, and notready exactly where no frame is ready. It took all of the text where the run was Done or met a
--- bad line, else a part from the front
+-- references, and notready exactly if no frame is ready; and a pli line with each event that gives up a packet, unless
+-- a request for a keyframe is outstanding or a later keyframe answers the packet. It took all of the text if the run
+-- was Done or met a bad line, else a part from the front
 pub record HonestLines (capture : List ℕ) (sender : Sender) (origins : List Origin) (status : Status)
     (before after : Option (List ℕ)) : Type 0 where
   pub call : Call

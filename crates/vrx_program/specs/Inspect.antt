@@ -64,4 +64,4 @@ inspection_outcome capture = inspected_lines (lines_of capture)
 
 -- what an inspection does with each event
 abbrev pub inspecting : Answering
-inspecting = record { text = λ h k event. inspected_event k event; refuses = λ event. None }
+inspecting = record { text = λ h k event. inspected_event k event }

@@ -1,5 +1,6 @@
 -- What a replay of a capture gives: a status and a text.
 use Rattle.std.specs.Prelude.{ℕ, nat_lt, if◌then◌else◌, List, [], ◌∷◌, length, Option, Some, None, Result, Ok, Err}
+use Rattle.std.specs.Option.{option_map}
 use Rattle.vrx_codec.specs.Meaning.{Meaning}
 use Rattle.vrx_vp8.specs.Descriptor.{vp8}
 use Rattle.vrx_h264.specs.AccessUnit.{h264}
@@ -8,12 +9,10 @@ use Rattle.vrx_core.specs.declared.settings.Settings.{Settings}
 use Rattle.vrx_core.specs.declared.settings.NewFault.{NewFault}
 use Rattle.vrx_core.specs.declared.settings.NewFault.TheVariants as faults
 use Rattle.vrx_core.specs.declared.event.Event.{Event}
-use Rattle.vrx_core.specs.declared.event.Event.TheVariants.{Tick}
 use Rattle.vrx_capture.specs.Line.{lines_of, longest_line}
 use Rattle.vrx_capture.specs.Reading.{Reading, reading}
 use Rattle.vrx_capture.specs.SettingsLine.{settings_in}
 use Rattle.vrx_text.specs.Transcript.{transcript}
-use Rattle.vrx_capture.specs.declared.line.LineReason.{LineReason}
 use Rattle.vrx_capture.specs.declared.settings_line.CodecName.{CodecName}
 use Rattle.vrx_capture.specs.declared.settings_line.CodecName.TheVariants.{Vp8, H264}
 use Rattle.vrx_text.specs.declared.transcript.ErrorReason.{ErrorReason}
@@ -22,7 +21,7 @@ use Rattle.vrx_text.specs.Transcript.{text_of}
 use Rattle.vrx_core.specs.machine.Machine.{reply}
 use Rattle.vrx_program.specs.Outcome.{Outcome, refusal, status_of, error_text}
 pub use Rattle.vrx_program.specs.Job.{most_events}
-use Rattle.vrx_program.specs.Job.{Answering}
+use Rattle.vrx_program.specs.Job.{Answering, bad_line}
 use Rattle.vrx_program.specs.declared.job.Unanswered.{Unanswered}
 use Rattle.vrx_program.specs.declared.job.Unanswered.TheVariants as unanswered
 
@@ -48,40 +47,17 @@ unfoldable pub settings_of : List ℕ → Result (CodecName × Settings) ErrorRe
 settings_of line =
     if nat_lt longest_line (length line) then Err errors.Settings else settings_or_reason (settings_in line)
 
--- a call, as a capture tells it: its codec and its settings, its events in order, each with the number of its line, up
--- to the first line that is refused; and that line with the reason, where there is one
+-- a call, as a capture reports it: its codec and its settings, its events in order, each with the number of its line, up
+-- to the first bad line; and that line with the reason, if there is one
 pub record Call : Type 0 where
   pub codec : CodecName
   pub settings : Settings
   pub events : List (ℕ × Event)
   pub bad : Option (ℕ × ErrorReason)
 
--- the events before the first tick
-abbrev pub before_tick : List (ℕ × Event) → List (ℕ × Event)
-before_tick [] = []
-before_tick ((k, Tick moment) ∷ lines) = []
-before_tick ((k, event) ∷ lines) = (k, event) ∷ before_tick lines
-
--- the line of the first tick
-abbrev pub first_tick : List (ℕ × Event) → Option ℕ
-first_tick [] = None
-first_tick ((k, Tick moment) ∷ lines) = Some k
-first_tick ((k, event) ∷ lines) = first_tick lines
-
--- the first line that is refused: that of the first tick, since ticks are right and not taken, or the bad line
-abbrev pub first_refused : Option ℕ → Option (ℕ × LineReason) → Option (ℕ × ErrorReason)
-first_refused (Some k) bad = Some (k, errors.Later)
-first_refused None (Some (k, reason)) = Some (k, errors.Line reason)
-first_refused None None = None
-
 -- the call with this codec and these settings, of what the lines behind the first give
 abbrev pub call_with : CodecName × Settings → Reading → Call
-call_with told r = record {
-  codec = told.0;
-  settings = told.1;
-  events = before_tick r.events;
-  bad = first_refused (first_tick r.events) r.bad;
-}
+call_with told r = record { codec = told.0; settings = told.1; events = r.events; bad = option_map bad_line r.bad }
 
 -- the call of the first line, which tells a codec and settings or is refused, and of the others
 abbrev pub call_from : Result (CodecName × Settings) ErrorReason → List (List ℕ) → Result Call ErrorReason
@@ -102,22 +78,17 @@ outcome_of (Err reason) = refusal reason
 outcome_of (Ok call) = record {
   status = status_of call.bad;
   text = transcript call.settings (meaning_of call.codec) [] call.events;
-  last = error_text call.bad;
+  last =
+      error_text call.bad;
 }
 
 -- what a replay of a capture gives
 abbrev pub replay_outcome : List ℕ → Outcome
 replay_outcome capture = outcome_of (call_of capture)
 
--- ticks are right, and refused for now
-abbrev pub refuses_tick : Event → Option ErrorReason
-refuses_tick (Tick moment) = Some errors.Later
-refuses_tick event = None
-
 -- what a replay does with each event: its text is that of the machine's reply
 abbrev pub replaying : Settings → Meaning → Answering
-replaying settings codec =
-    record { text = λ h k event. text_of k (reply settings codec h event); refuses = refuses_tick }
+replaying settings codec = record { text = λ h k event. text_of k (reply settings codec h event) }
 
 -- why no engine stands for settings with this fault: RED and retransmissions are right, and not taken yet
 abbrev pub hindrance_of : NewFault → Unanswered

@@ -8,10 +8,8 @@ use Rattle.vrx_capture.specs.Ahead.{ahead}
 use Rattle.vrx_capture.specs.Reader.{Reader, AreWhole}
 use Rattle.vrx_program.specs.HasRead.{HasRead}
 use Rattle.vrx_program.specs.Outcome.{Outcome}
-use Rattle.vrx_program.specs.Job.{Answering, most_events, history_after, texts, first_refusal, Begins}
-use Rattle.vrx_text.specs.Transcript.{error_line}
-use Rattle.vrx_text.specs.declared.transcript.ErrorReason.{ErrorReason}
-use Rattle.vrx_program.specs.Ends.{EndsOver, EndsBadly, EndsAmid}
+use Rattle.vrx_program.specs.Job.{Answering, most_events, history_after, texts, Begins}
+use Rattle.vrx_program.specs.Ends.{EndsOver, EndsAmid}
 use Rattle.vrx_program.specs.declared.status.Status.{Status}
 use Rattle.vrx_program.specs.declared.status.Status.TheVariants as statuses
 
@@ -35,8 +33,8 @@ pub record ReadsInStep {S : Type 0} (outcome : List ℕ → Outcome) (is_read : 
   pub source : left old ≡ ahead read (left new)
   pub reads : ReadsSo is_read (IsWritten outcome before after) [] old new read
 
--- a run in the middle: the first line began it, the reader read some events, none of which is refused, the word answered
--- them, and the sink took their text
+-- a run in the middle: the first line began it, the reader read some events, the word answered them, and the sink took
+-- their text
 pub record IsRunning {S : Type 0} (outcome : List ℕ → Outcome) (job : Answering) (answers : List Event → Type 0)
     (is_read : S → List ℕ → S → Type 0) (left : S → Option (List ℕ)) (start now : S) (before after : Option (List ℕ))
     (reader : Reader) : Type 0 where
@@ -44,7 +42,6 @@ pub record IsRunning {S : Type 0} (outcome : List ℕ → Outcome) (job : Answer
   pub begins : Begins outcome first job
   pub events : List (ℕ × Event)
   pub read : HasRead most_events (left start) first reader (left now) events
-  pub accepted : first_refusal job events ≡ None
   pub history : answers (history_after [] events)
   pub wrote : after ≡ with_more before (texts job [] events)
   pub reads : ReadsSo is_read (IsWritten outcome before after) [] start now (read.gone ++ reader.kept)
@@ -56,12 +53,9 @@ pub record IsOver {S : Type 0} (outcome : List ℕ → Outcome) (is_read : S →
   pub in_step : ReadsInStep outcome is_read left start now before after
 
 -- what becomes of a run at an event of line k after a history: the word answered it, and the sink took the text; or the
--- run ends: in the error line, as the event is refused; in the text; or as memory ran out before it
+-- run ends in the text
 abbrev pub IsAnswered : Answering → (List Event → Type 0) → List Event → ℕ → Event → Option Status → Option (List ℕ) →
     Option (List ℕ) → Type 0
 IsAnswered job answers h k event None before after =
-    (job.refuses event ≡ None) × answers (event ∷ h) × (after ≡ with_more before (job.text h k event))
-IsAnswered job answers h k event (Some status) before after =
-    ((reason : ErrorReason) × (job.refuses event ≡ Some reason) × EndsBadly status (error_line k reason) before after)
-    ⊎ (((job.refuses event ≡ None) × EndsAmid status (job.text h k event) before after)
-    ⊎ ((status ≡ statuses.NoMemory) × (after ≡ before)))
+    answers (event ∷ h) × (after ≡ with_more before (job.text h k event))
+IsAnswered job answers h k event (Some status) before after = EndsAmid status (job.text h k event) before after

@@ -14,6 +14,7 @@ use crate::status::Status;
 use std::alloc::Global;
 use vrx_core::{Event, MOST_EVENTS};
 use vrx_io::{Sink, Source, put};
+use vrx_num::NoMemory;
 use vrx_text::{ErrorReason, HeadFault, Line, LineFault, Lines, lines_join, text_of_error};
 
 /// Ends a run at a line that is refused: the error line is written as one piece.
@@ -47,7 +48,6 @@ fn empty(text: &mut Vec<u8>)
 /// Has the event of a line answered, and writes the text as one piece. The buffer holds this text only. A status ends
 /// the run.
 fn answer<J: Job, K: Sink>(
-    alloc: Global,
     job: &mut J,
     k: u32,
     event: &Event,
@@ -71,8 +71,7 @@ fn answer<J: Job, K: Sink>(
             Ok(()) => None,
             Err(_) => Some(Status::WriteFault),
         },
-        Err(Unanswered::Refused(reason)) => Some(refuse(alloc, k, reason, sink)),
-        Err(Unanswered::NoMemory) => Some(Status::NoMemory),
+        Err(NoMemory) => Some(Status::NoMemory),
     }
 }
 
@@ -106,7 +105,7 @@ fn take_event<J: Job, S: Source, K: Sink>(
     // A law: the lines of whole lines and of what stands after them join, and so does what they give.
     lines_join();
     match lines.next(source) {
-        Ok(Line::Event { k, event }) => answer(alloc, job, k, &event, text, sink),
+        Ok(Line::Event { k, event }) => answer(job, k, &event, text, sink),
         Ok(Line::End) => Some(Status::Done),
         Err(LineFault::Bad { k, reason }) => {
             Some(refuse(alloc, k, ErrorReason::Line(reason), sink))

@@ -59,17 +59,11 @@ fn has_right_settings(alloc: Global, line: &[u8]) -> Result<bool, NoMemory>
 }
 
 /// Puts the line of a datagram after a text.
-fn add_line(alloc: Global, k: u32, bytes: &[u8], text: &mut Vec<u8>) -> Result<(), Unanswered>
+fn add_line(alloc: Global, k: u32, bytes: &[u8], text: &mut Vec<u8>) -> Result<(), NoMemory>
     ensures ok { OnOk result (text.new.items ≡ text.old.items ++ inspection k bytes.now) }
-    ensures err { IfErr result (λ why. why ≡ Unanswered.NoMemory) }
 {
-    let Ok(line) = inspect_text(alloc, k, bytes) else {
-        return Err(Unanswered::NoMemory);
-    };
-    match text.extend_from_slice(line.as_slice()) {
-        Ok(()) => Ok(()),
-        Err(_) => Err(Unanswered::NoMemory),
-    }
+    let line = inspect_text(alloc, k, bytes)?;
+    Ok(text.extend_from_slice(line.as_slice())?)
 }
 
 impl Job for Inspect {
@@ -91,7 +85,7 @@ impl Job for Inspect {
         }
     }
 
-    fn answer(&mut self, k: u32, event: &Event, text: &mut Vec<u8>) -> Result<(), Unanswered> {
+    fn answer(&mut self, k: u32, event: &Event, text: &mut Vec<u8>) -> Result<(), NoMemory> {
         self.events += 1;
         match event {
             Event::Datagram { bytes, .. } => add_line(self.alloc, k, bytes.as_slice(), text),

@@ -9,9 +9,10 @@ ghost use Rattle.vrx_program.specs.Heads.{RefusesHeads};
 
 use std::alloc::Global;
 use vrx_core::Event;
+use vrx_num::NoMemory;
 use vrx_text::ErrorReason;
 
-/// Why a word doesn't go on at a line.
+/// Why a word doesn't begin by a first line.
 pub(crate) enum Unanswered {
     /// The line is refused, for this reason.
     Refused(ErrorReason),
@@ -45,15 +46,12 @@ pub(crate) trait Job: Drop {
         ensures count { IfOk result (λ job. count job ≡ 0) }
         ensures refused { IfErr result (λ why. IfRefused why (IsRefused outcome line.now)) };
 
-    /// Puts the text of the event of line `k` after a text, or says why there is none.
-    fn answer(&mut self, k: u32, event: &Event, text: &mut Vec<u8>) -> Result<(), Unanswered>
+    /// Puts the text of the event of line `k` after a text, unless memory runs out. No event is refused.
+    fn answer(&mut self, k: u32, event: &Event, text: &mut Vec<u8>) -> Result<(), NoMemory>
         requires room { count self.old + 1 ≤ most_events }
         ensures text { (h : List Event) → answered self.old h →
             OnOk result (text.new.items ≡ text.old.items ++ (answering self.old).text h k event.now) }
         ensures answered { (h : List Event) → answered self.old h → OnOk result (answered self.new (event.now ∷ h)) }
-        ensures accepted { OnOk result ((answering self.old).refuses event.now ≡ None) }
-        ensures refused { IfErr result (λ why.
-            IfRefused why (λ reason. (answering self.old).refuses event.now ≡ Some reason)) }
         ensures same { answering self.new ≡ answering self.old }
         ensures counted { OnOk result (count self.new ≡ count self.old + 1) };
 }

@@ -80,9 +80,10 @@ pub fn run<S: Source, K: Sink>(
         ¬ Rose (S.faults source.old) (S.faults source.new) → ¬ Rose (K.faults sink.old) (K.faults sink.new) →
         IfSome (S.left source.old) (λ capture. (result ≡ (gives word capture).status) ⊎ (result ≡ Status.NoMemory)) }
 
-    // The honest call: where an honest network took the datagrams of the capture from one honest sender, the frames
+    // The honest call: if an honest network took the datagrams of the capture from one honest sender, the frames
     // pulled are that sender's, byte for byte, in order, each at most once, from a keyframe on, after all their
-    // references, and notready comes exactly where no frame is ready.
+    // references, and notready comes exactly if no frame is ready. Each event that gives up a packet has a pli line,
+    // unless a request for a keyframe is outstanding or a later keyframe answers the packet.
     ensures honest { IsWord Word.Replay (map string_bytes words.now) → IfSome (S.left source.old) (λ capture.
         (sender : Sender) (origins : List Origin) → IsHonestCapture capture sender origins →
         HonestLines capture sender origins result (K.taken sink.old) (K.taken sink.new)) }

@@ -8,7 +8,7 @@ ghost use Rattle.vrx_core.specs.declared.event.Event.{Event};
 ghost use Rattle.vrx_text.specs.Transcript.{text_of};
 ghost use Rattle.vrx_capture.specs.declared.settings_line.CodecName.{CodecName};
 ghost use Rattle.vrx_program.specs.Job.{IfRefused, most_events};
-ghost use Rattle.vrx_program.specs.Replay.{refuses_tick, replay_outcome, hindrance_of, unless_fault};
+ghost use Rattle.vrx_program.specs.Replay.{replay_outcome, hindrance_of, unless_fault};
 ghost use Rattle.vrx_program.specs.Replays.{replaying_by, HasReplayed, replayed_count};
 
 use crate::job::{Job, Unanswered};
@@ -29,47 +29,34 @@ pub(crate) enum Replay {
     H264(Engine<H264>),
 }
 
-/// That a text was written, or that memory ran out.
-fn written(text: Result<(), NoMemory>) -> Result<(), Unanswered>
-    ensures ok { is_ok result ≡ is_ok text }
-    ensures err { IfErr result (λ why. why ≡ Unanswered.NoMemory) }
-{
-    match text {
-        Ok(()) => Ok(()),
-        Err(_) => Err(Unanswered::NoMemory),
-    }
-}
-
 /// Puts the text of an engine's reply to an event after a text.
 fn reply_of<C: Codec>(
     engine: &mut Engine<C>,
     k: u32,
     event: &Event,
     text: &mut Vec<u8>,
-) -> Result<(), Unanswered>
+) -> Result<(), NoMemory>
     requires room { engine.old.events < most_events }
     ensures text { (h : List Event) → StandsFor C.meaning engine.old h →
         OnOk result (text.new.items ≡ text.old.items ++ text_of k (reply engine.old.settings C.meaning h event.now)) }
     ensures stands { (h : List Event) → StandsFor C.meaning engine.old h →
         OnOk result (StandsFor C.meaning engine.new (event.now ∷ h)) }
-    ensures accepted { OnOk result (refuses_tick event.now ≡ None) }
-    ensures refused { IfErr result (λ why. IfRefused why (λ reason. refuses_tick event.now ≡ Some reason)) }
     ensures settings { engine.new.settings ≡ engine.old.settings }
     ensures counted { OnOk result (engine.new.events ≡ engine.old.events + 1) }
 {
     match event {
-        Event::Datagram { moment, bytes } => match engine.datagram(*moment, bytes.as_slice()) {
-            Ok(handled) => written(write_handled(text, k, &handled)),
-            Err(_) => Err(Unanswered::NoMemory),
-        },
+        Event::Datagram { moment, bytes } => {
+            let handled = engine.datagram(*moment, bytes.as_slice())?;
+            write_handled(text, k, &handled)
+        }
         Event::Tick { moment } => {
             let feedback = engine.tick(*moment);
-            written(write_tick(text, k, &feedback))
+            write_tick(text, k, &feedback)
         }
-        Event::Pull { moment } => match engine.pull(*moment) {
-            Ok(pulled) => written(write_pulled(text, k, &pulled)),
-            Err(_) => Err(Unanswered::NoMemory),
-        },
+        Event::Pull { moment } => {
+            let pulled = engine.pull(*moment)?;
+            write_pulled(text, k, &pulled)
+        }
     }
 }
 
@@ -129,7 +116,7 @@ impl Job for Replay {
         }
     }
 
-    fn answer(&mut self, k: u32, event: &Event, text: &mut Vec<u8>) -> Result<(), Unanswered> {
+    fn answer(&mut self, k: u32, event: &Event, text: &mut Vec<u8>) -> Result<(), NoMemory> {
         match self {
             Replay::Vp8(engine) => reply_of(engine, k, event, text),
             Replay::H264(engine) => reply_of(engine, k, event, text),

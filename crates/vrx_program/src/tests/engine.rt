@@ -39,7 +39,7 @@ fn is_the_keyframe(pulled: &Pulled) -> bool {
     }
 }
 
-// Moments may go back, and the clock doesn't. Nothing but the clock and the count follows a tick.
+// Moments may go back, and the clock doesn't. Nothing is missing, and a keyframe completed: the ticks ask for nothing.
 #[test]
 fn an_engine_counts_events_and_keeps_the_clock(rt: HostRuntime) -> Result<(), Fail> {
     is_send::<Engine<Vp8>>();

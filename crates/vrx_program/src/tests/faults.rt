@@ -82,11 +82,11 @@ fn the_first_fault_ends_the_run(rt: HostRuntime) -> Result<(), Fail> {
         // a bad line in hand is told before the next read
         (
             "replay",
-            "t 1\np 0\n",
+            "t 1\nx\np 0\n",
             2,
             0,
             Status::BadCapture,
-            "error line 2 later\n",
+            "2 tick\nerror line 3 kind\n",
         ),
         (
             "replay",

@@ -12,7 +12,8 @@ returns-in-Ok-Event-clause-runs g c start before p = let next =
     c.args.source.now c.next.new.source
     (g.K.Sink.taken c.args.sink.now) c.args.lines.now c.next.new.self p next.0 next.2 c.next.ensures.idle
     c.in-Ok-Event.k c.in-Ok-Event.event next.1 (g.J.Job.answered c.answer.new.job) c.answer.result
-    (g.K.Sink.taken c.answer.new.sink) (c.answer.ensures.answers (history_after [] p.events) p.history))
+    (g.K.Sink.taken c.answer.new.sink)
+    (rw c.in-Ok-Event.field-0-is at (c.answer.ensures.answers (history_after [] p.events) p.history)))
 
 pub returns-in-Ok-End-clause-runs : goal.returns-in-Ok-End-clause-runs
 returns-in-Ok-End-clause-runs g c start before p = let next = rw c.in-Ok-End.field-0-is at c.in-Ok-End.ensures.next in

@@ -4,7 +4,8 @@ use Rattle.vrx_program.proofs.inspect.has_right_settings.Goals as goal
 
 pub returns-in_default : goal.returns-in_default
 returns-in_default c = record {
-  right = sym (head-none c.args.line.now c.requires.short (sym c.read_settings.ensures.settings ∙ c.in_default.is));
+  right =
+      sym (head-none c.args.line.now c.requires.short (sym c.read_settings.ensures.settings ∙ c.in_default.is));
 }
 
 pub returns-in-None : goal.returns-in-None
