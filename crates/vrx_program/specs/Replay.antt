@@ -47,8 +47,8 @@ unfoldable pub settings_of : List ℕ → Result (CodecName × Settings) ErrorRe
 settings_of line =
     if nat_lt longest_line (length line) then Err errors.Settings else settings_or_reason (settings_in line)
 
--- a call, as a capture reports it: its codec and its settings, its events in order, each with the number of its line, up
--- to the first bad line; and that line with the reason, if there is one
+-- a call, as a capture reports it: its codec and its settings, its events in order, each with the number of its
+-- line, up to the first bad line; and that line with the reason, if there is one
 pub record Call : Type 0 where
   pub codec : CodecName
   pub settings : Settings
