@@ -1,3 +1,5 @@
+-- Lines of octets, and how their parts join; what the reader has and reads; numbers and fields of a line; which
+-- reason a bad line has; rows by hand.
 pub mod PlaceLemmas
 pub mod LinesLemmas
 pub mod JoinLemmas

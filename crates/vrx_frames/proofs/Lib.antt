@@ -1,3 +1,5 @@
+-- Runs by their conditions, and what one number completes; the search around a number, by links and marks; what is
+-- kept of each number; how the parts of a run join; rows by hand.
 mod AnswerLemmas
 mod ApartLemmas
 mod AroundLemmas

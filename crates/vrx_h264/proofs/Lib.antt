@@ -1,3 +1,4 @@
+-- Payloads read and written, unit by unit; access units joined; rows by hand.
 mod AccessUnitLemmas
 mod PayloadLemmas
 mod Rows

@@ -1,2 +1,3 @@
+-- Counts of faults, and what a sink took.
 mod FaultsLemmas
 mod SinkLemmas

@@ -1,2 +1,3 @@
+-- Numbers around the newest one, and rows by hand.
 mod ExtendedLemmas
 mod ExtendedRows

@@ -1,3 +1,5 @@
+-- What was read and written; first lines; the events of a run, by any word; what replay and inspect give; the honest
+-- call's lines; rows by hand.
 pub mod WordsLemmas
 pub mod ReadsLemmas
 pub mod TextLemmas

@@ -15,7 +15,7 @@ TookPrefix before after text = (n : ℕ) × (after ≡ with_more before (take n 
 -- a sink took exactly the text of the whole lines that were read of a capture
 pub record TookLines (outcome : List ℕ → Outcome) (capture : List ℕ)
     (before after left : Option (List ℕ)) : Type 0 where
-  -- what was read: whole lines, and a part of a line behind them
+  -- what was read: whole lines, and a part of a line after them
   pub lines : List ℕ
   pub part : List ℕ
   pub read : Some capture ≡ ahead (lines ++ part) left
@@ -44,13 +44,13 @@ Ends outcome statuses.WriteFault capture before after left =
 Ends outcome statuses.NoMemory capture before after left = TookPrefix before after (text_of_outcome (outcome capture))
 Ends outcome statuses.BadUsage capture before after left = ⊥
 
--- how a run ends over this source and sink, where the source tells its bytes
+-- how a run ends over this source and sink, if the source tells its bytes
 abbrev pub EndsOver : (List ℕ → Outcome) → Status → Option (List ℕ) → Option (List ℕ) → Option (List ℕ) →
     Option (List ℕ) → Type 0
 EndsOver outcome status source sink left taken =
     IfSome source (λ capture. Ends outcome status capture sink taken left)
 
--- how a run ends at a line that is refused, of which this text tells
+-- how a run ends at a line that is refused, of which this text speaks
 abbrev pub EndsBadly : Status → List ℕ → Option (List ℕ) → Option (List ℕ) → Type 0
 EndsBadly statuses.BadCapture text before after = after ≡ with_more before text
 EndsBadly statuses.WriteFault text before after = TakesShortPrefix before after text

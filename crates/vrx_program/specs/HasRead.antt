@@ -7,7 +7,7 @@ use Rattle.vrx_capture.specs.Reading.{sound, reading}
 use Rattle.vrx_capture.specs.Ahead.{ahead}
 use Rattle.vrx_capture.specs.Reader.{Reader, AreWhole}
 
--- what a reader read of a source: the first line, and whole lines behind it that give these events
+-- what a reader read of a source: the first line, and whole lines after it that give these events
 pub record HasRead (max : ℕ) (before : Option (List ℕ)) (first : List ℕ) (reader : Reader) (left : Option (List ℕ))
     (events : List (ℕ × Event)) : Type 0 where
   -- the octets passed over, and the lines that they are

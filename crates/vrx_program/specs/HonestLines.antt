@@ -34,7 +34,7 @@ lines_text (line ∷ lines) (reply ∷ replies) = text_of line.0 reply ++ lines_
 abbrev pub replies_of : Call → List Reply
 replies_of call = replies call.settings (meaning_of call.codec) [] (events_of call)
 
--- the text of a call: the lines of the machine's replies, and then the error line, where a line is bad
+-- the text of a call: the lines of the machine's replies, and then the error line, if a line is bad
 abbrev pub call_text : Call → List ℕ
 call_text call = lines_text call.events (replies_of call) ++ error_text call.bad
 

@@ -53,7 +53,7 @@ abbrev pub inspected_from : Bool → List (List ℕ) → Outcome
 inspected_from true lines = inspected_reading (reading most_events 2 0 lines)
 inspected_from false lines = refusal errors.Settings
 
--- what the inspection of these lines gives: an absent first line tells no settings
+-- what the inspection of these lines gives: an absent first line has no settings
 abbrev pub inspected_lines : List (List ℕ) → Outcome
 inspected_lines [] = refusal errors.Settings
 inspected_lines (line ∷ lines) = inspected_from (is_head line) lines

@@ -1,4 +1,4 @@
--- The numbers of the statuses, and the lines that tell them to a person.
+-- The numbers of the statuses, and the lines that report them to a person.
 use Rattle.std.specs.Prelude.{ℕ, List, codes, Option, Some, None}
 use Rattle.vrx_program.specs.declared.status.Status.{Status}
 use Rattle.vrx_program.specs.declared.status.Status.TheVariants.{Done, BadUsage, BadCapture, ReadFault, WriteFault, NoMemory}
@@ -11,7 +11,7 @@ number_of ReadFault = 3
 number_of WriteFault = 4
 number_of NoMemory = 5
 
--- the line on standard error: none where the run was done
+-- the line on standard error: none if the run was done
 abbrev pub cause_of : Status → Option (List ℕ)
 cause_of Done = None
 cause_of BadUsage = Some (codes "usage: vrx replay|inspect < CAPTURE")

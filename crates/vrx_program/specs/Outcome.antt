@@ -5,7 +5,7 @@ use Rattle.vrx_text.specs.declared.transcript.ErrorReason.{ErrorReason}
 use Rattle.vrx_program.specs.declared.status.Status.{Status}
 use Rattle.vrx_program.specs.declared.status.Status.TheVariants.{Done, BadCapture}
 
--- how a run ends where nothing fails: its status, the text of the events, and the error line, where there is one
+-- how a run ends if nothing fails: its status, the text of the events, and the error line, if there is one
 pub record Outcome : Type 0 where
   pub status : Status
   pub text : List ℕ
@@ -15,12 +15,12 @@ pub record Outcome : Type 0 where
 abbrev pub text_of_outcome : Outcome → List ℕ
 text_of_outcome outcome = outcome.text ++ outcome.last
 
--- Done where no line is refused
+-- Done if no line is refused
 abbrev pub status_of : Option (ℕ × ErrorReason) → Status
 status_of None = Done
 status_of (Some bad) = BadCapture
 
--- the last line, where a line is refused
+-- the last line, if a line is refused
 abbrev pub error_text : Option (ℕ × ErrorReason) → List ℕ
 error_text None = []
 error_text (Some (k, reason)) = error_line k reason

@@ -37,12 +37,12 @@ unless_fault codec settings (Some faults.Later) = Err errors.Later
 unless_fault codec settings (Some fault) = Err errors.Settings
 unless_fault codec settings None = Ok (codec, settings)
 
--- the codec and the settings that a settings line tells, or why it is refused
+-- the codec and the settings that a settings line says, or why it is refused
 abbrev pub settings_or_reason : Option (CodecName × Settings) → Result (CodecName × Settings) ErrorReason
 settings_or_reason None = Err errors.Settings
 settings_or_reason (Some (codec, settings)) = unless_fault codec settings (fault_of settings)
 
--- the codec and the settings that the first line tells, or why it is refused
+-- the codec and the settings that the first line says, or why it is refused
 unfoldable pub settings_of : List ℕ → Result (CodecName × Settings) ErrorReason
 settings_of line =
     if nat_lt longest_line (length line) then Err errors.Settings else settings_or_reason (settings_in line)
@@ -55,16 +55,16 @@ pub record Call : Type 0 where
   pub events : List (ℕ × Event)
   pub bad : Option (ℕ × ErrorReason)
 
--- the call with this codec and these settings, of what the lines behind the first give
+-- the call with this codec and these settings, of what the lines after the first give
 abbrev pub call_with : CodecName × Settings → Reading → Call
 call_with told r = record { codec = told.0; settings = told.1; events = r.events; bad = option_map bad_line r.bad }
 
--- the call of the first line, which tells a codec and settings or is refused, and of the others
+-- the call of the first line, which says a codec and settings or is refused, and of the others
 abbrev pub call_from : Result (CodecName × Settings) ErrorReason → List (List ℕ) → Result Call ErrorReason
 call_from (Err reason) lines = Err reason
 call_from (Ok told) lines = Ok (call_with told (reading most_events 2 0 lines))
 
--- the call of these lines, or why the first is refused: an absent one tells no settings
+-- the call of these lines, or why the first is refused: an absent one says no settings
 abbrev pub call_in : List (List ℕ) → Result Call ErrorReason
 call_in [] = Err errors.Settings
 call_in (line ∷ lines) = call_from (settings_of line) lines

@@ -10,7 +10,7 @@ abbrev pub word_text : Word → List ℕ
 word_text Replay = codes "replay"
 word_text Inspect = codes "inspect"
 
--- the words are this one alone
+-- the words are only this one
 abbrev pub IsWord : Word → List (List ℕ) → Type 0
 IsWord word words = words ≡ word_text word ∷ []
 

@@ -1,4 +1,4 @@
-//! Replays captured calls, and tells what their datagrams are.
+//! Replays captured calls, and says what their datagrams are.
 //!
 //! `run` is the program over any source and sink, and carries its theorem; `main` runs it over the standard streams.
 #![tactic(auto)]
@@ -42,7 +42,7 @@ use vrx_text::lines_join;
 /// Runs the program: `replay` reads a capture from the source and writes its transcript to the sink, and `inspect`
 /// writes what each of its datagrams is.
 ///
-/// What the clauses say of content, they say where the source tells its bytes. What the sink took is what it took in
+/// What the clauses say of content, they say if the source tells its bytes. What the sink took is what it took in
 /// this call.
 pub fn run<S: Source, K: Sink>(
     alloc: Global,

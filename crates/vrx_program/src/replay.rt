@@ -20,7 +20,7 @@ use vrx_num::NoMemory;
 use vrx_text::{CodecName, ErrorReason, read_settings, write_handled, write_pulled, write_tick};
 use vrx_vp8::Vp8;
 
-/// A replay: the engine of the codec that the first line tells.
+/// A replay: the engine of the codec that the first line says.
 #[derive(Drop)]
 pub(crate) enum Replay {
     /// It receives VP8.

@@ -36,7 +36,7 @@ impl Status {
         }
     }
 
-    /// What to tell a person, where the run wasn't done.
+    /// What to report to a person, if the run wasn't done.
     pub fn cause(self) -> Option<&'static str>
         ensures cause { option_map (λ text. text.now) result ≡ cause_of self }
     {

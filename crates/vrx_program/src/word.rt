@@ -13,7 +13,7 @@ pub enum Word {
     Inspect,
 }
 
-/// Whether the words are this one alone.
+/// Whether the words are only this one.
 fn is_alone(words: &[String], text: &str) -> bool
     ensures { IsTrue result ↔ (map string_bytes words.now ≡ text.now ∷ []) }
 {
@@ -23,7 +23,7 @@ fn is_alone(words: &[String], text: &str) -> bool
     }
 }
 
-/// The word that these words are, where the program knows them.
+/// The word that these words are, if the program knows them.
 pub(crate) fn word_of(words: &[String]) -> Option<Word>
     ensures word { MatchOption result
         ((word : Word) → ¬ IsWord word (map string_bytes words.now))

@@ -1,3 +1,4 @@
+-- Headers and bodies read against the grammar, and compounds; the items of a NACK, written and read; rows by hand.
 mod BodyLemmas
 mod CompoundLemmas
 mod FeedbackLemmas

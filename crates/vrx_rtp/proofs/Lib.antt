@@ -1,3 +1,4 @@
+-- Packets read against the grammar, step by step; the order of faults; rows by hand.
 mod FaultLemmas
 mod PacketLemmas
 mod PacketRows

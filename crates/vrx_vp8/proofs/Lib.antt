@@ -1,3 +1,4 @@
+-- Descriptors read, and payloads written and read again; rows by hand.
 mod DescriptorLemmas
 mod WrittenLemmas
 mod Rows

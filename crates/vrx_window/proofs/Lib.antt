@@ -1,3 +1,5 @@
+-- Maps of entries in order; the ring's slots; what stands under a number or was given up; placing, and the edges of
+-- the window; rows by hand.
 mod ContentLemmas
 mod EntryLemmas
 mod FateLemmas

@@ -32,7 +32,7 @@ const LINES: [(&str, &str, &str); 9] = [
 ];
 
 /// The capture, and what a word writes of the lines that lie in so many octets from its front, their line feeds with
-/// them; the last line has none, and is told once the end was found.
+/// them; the last line has none, and is given once the end was found.
 fn told_of(alloc: Global, word: &str, read: usize, end: bool) -> Result<(Vec<u8>, Vec<u8>), Fail> {
     let mut capture = Vec::new(alloc);
     let mut text = Vec::new(alloc);
@@ -79,7 +79,7 @@ fn the_first_fault_ends_the_run(rt: HostRuntime) -> Result<(), Fail> {
         ("replay", CALL, 1, 0, Status::ReadFault, ""),
         // the text of an event is one piece
         ("replay", CALL, 0, 2, Status::WriteFault, "2 media 65537\n"),
-        // a bad line in hand is told before the next read
+        // a bad line in hand is reported before the next read
         (
             "replay",
             "t 1\nx\np 0\n",
