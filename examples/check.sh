@@ -80,7 +80,7 @@ short="bad rtp Short 1"
 # judged LIST WORD: 'right', 'later', or the reason that is the name of the list
 judged() {
   case $1:$2 in
-    blank:* | right:* | later:inspect) echo right ;;
+    blank:* | tick:* | right:* | later:inspect) echo right ;;
     *) echo "$1" ;;
   esac
 }
@@ -102,8 +102,8 @@ for list in right later settings; do
   done < "$folder/lines"
 done
 
-# each line of a list between two datagrams, and as the last line, without a line feed
-for list in blank later kind moment end hex; do
+# each line of a list between two datagrams, and as the last line, without a line feed; a replay has a line for a tick
+for list in blank tick kind moment end hex; do
   grep -v '^## ' "examples/other_lines/$list" > "$folder/lines"
   while IFS= read -r line; do
     for word in replay inspect; do
@@ -111,6 +111,7 @@ for list in blank later kind moment end hex; do
       reason=$(judged $list $word)
       if [ "$reason" = right ]; then
         status=0 third="4 $reply"$'\n' last=
+        [ $list:$word != tick:replay ] || third=$'3 tick\n'$third last=$'2 tick\n'
       else
         status=2 third="error line 3 $reason"$'\n' last="error line 2 $reason"$'\n'
       fi
@@ -137,6 +138,9 @@ call=examples/long_call
 again $call/capture /dev/null tools/make_call 1 300
 again $call/sent /dev/null tools/make_call 1 300 sent
 again $call/transcript $call/sent tools/expected_frames
+call=examples/stopped_decoder
+again $call/capture /dev/null tools/made_calls stopped_decoder capture
+again $call/transcript /dev/null tools/made_calls stopped_decoder transcript
 
 # the Rattle of docs/USING.md is what the test of the same name runs
 if cmp -s <(awk '/^```rust/ { f = 1; next } /^```/ { f = 0 } f' docs/USING.md) \
@@ -246,7 +250,7 @@ told 1 "$usage" $capture /dev/null $'replay\xff'
 told 2 "$bad" examples/bad_lines/kind.capture /dev/null replay
 told 2 "$bad" examples/bad_lines/kind.capture /dev/null inspect
 told 0 "" examples/bad_lines/later_red.capture /dev/null inspect
-told 0 "" examples/bad_lines/later_tick.capture /dev/null inspect
+told 2 "$bad" examples/bad_line_after_a_tick/capture /dev/null replay
 told 3 "vrx: a read failed" examples /dev/null replay
 told 3 "vrx: a read failed" examples /dev/null inspect
 told 4 "vrx: a write failed" $capture /dev/full replay

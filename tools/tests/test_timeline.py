@@ -101,7 +101,7 @@ class Timeline(unittest.TestCase):
                 (CALL, TOLD.replace("7 media", "8 media", 1), 1, "they aren't of the same call"),
                 (CALL, "hello\n", 1, "line 1 is no line of a transcript"), ("hello\n", TOLD, 1, "no settings line"),
                 (HEAD + "x 1\n", TOLD, 1, "line 2 is no event"),
-                (CALL, TOLD[:14] + "error line 3 later\n", 0, "ended at line 3"),
+                (CALL, TOLD[:14] + "error line 3 hex\n", 0, "ended at line 3"),
                 (CALL, TOLD[:14], 0, "the transcript ends before line 3"), ("", TOLD, 1, "is empty")):
             with self.subTest(words=words):
                 ended = self.drawn(call, told)
