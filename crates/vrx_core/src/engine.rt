@@ -25,6 +25,7 @@ use crate::settings_fault::fault_of as first_fault;
 use arrayvec::ArrayVec;
 use std::alloc::Global;
 use std::marker::Model;
+use vrx_asks::Due;
 use vrx_codec::Codec;
 use vrx_frames::{runs_apart, runs_are, runs_rise};
 use vrx_num::limits::MOST_EVENTS;
@@ -41,12 +42,13 @@ const NO_FEEDBACK: Feedback = Feedback {
 ///
 /// Its codec reads the payloads and joins the parts of a frame. It keeps no history. Contracts see its parts, and say
 /// for every history for which it stands that it stands for the history with the event, and that the reply is the
-/// machine's.
+/// machine's. What the last event asked for and gave up stays in `due`, whose room the next one uses again.
 #[derive(Drop)]
 pub struct Engine<C: Codec> {
     alloc: Global,
     assembler: Assembler<C>,
     requests: Requests,
+    due: Due,
 }
 
 impl<C: Codec> Model for Engine<C> {
@@ -87,6 +89,7 @@ fn pli_if(settings: &Settings, key: bool) -> Option<[u8; 12]>
 fn ask<C: Codec>(
     assembler: &Assembler<C>,
     requests: &mut Requests,
+    numbers: &mut ArrayVec<u64, 2048>,
     arrival: &Option<Arrival>,
 ) -> Feedback
     requires below { IfSome arrival.now (λ a. AreBelow a.newest requests.old.asks) }
@@ -102,11 +105,11 @@ fn ask<C: Codec>(
             let now = assembler.now();
             let front = assembler.front();
             let key = assembler.greatest_key();
-            let asked = requests.taken(now, arrival, front, key);
+            let asks_key = requests.taken(now, arrival, front, key, numbers);
             let settings = assembler.settings();
             Feedback {
-                nack: nack_unless_none(settings, asked.numbers.as_slice()),
-                pli: pli_if(settings, asked.key),
+                nack: nack_unless_none(settings, numbers.as_slice()),
+                pli: pli_if(settings, asks_key),
             }
         }
     }
@@ -150,6 +153,10 @@ impl<C: Codec> Engine<C> {
             alloc,
             assembler,
             requests,
+            due: Due {
+                ask: ArrayVec::new(),
+                give_up: ArrayVec::new(),
+            },
         })
     }
 
@@ -202,7 +209,12 @@ impl<C: Codec> Engine<C> {
         runs_are();
         runs_rise();
         let outcome = self.assembler.handle(moment, bytes)?;
-        let feedback = ask(&self.assembler, &mut self.requests, &outcome.arrival);
+        let feedback = ask(
+            &self.assembler,
+            &mut self.requests,
+            &mut self.due.ask,
+            &outcome.arrival,
+        );
         Ok(Handled {
             what: outcome.what,
             repaired: Numbers::new(self.alloc),
@@ -228,12 +240,14 @@ impl<C: Codec> Engine<C> {
         let started = self.assembler.newest().is_some();
         let interval = self.assembler.settings().interval;
         let key = self.assembler.greatest_key();
-        let ticked = self.requests.ticked(now, interval, started, key);
-        self.assembler.give_up_all(ticked.lost.as_slice());
+        let asks_key = self
+            .requests
+            .ticked(now, interval, started, key, &mut self.due);
+        self.assembler.give_up_all(self.due.give_up.as_slice());
         let settings = self.assembler.settings();
         Feedback {
-            nack: nack_unless_none(settings, ticked.numbers.as_slice()),
-            pli: pli_if(settings, ticked.key),
+            nack: nack_unless_none(settings, self.due.ask.as_slice()),
+            pli: pli_if(settings, asks_key),
         }
     }
 

@@ -17,21 +17,6 @@ use vrx_asks::{Asks, Due, KeyAsk};
 use vrx_num::NoMemory;
 use vrx_num::limits::WINDOW;
 
-/// What an event asks for: packets by their numbers, and a keyframe.
-#[derive(Debug, Drop)]
-pub(crate) struct Asked {
-    pub(crate) numbers: ArrayVec<u64, 2048>,
-    pub(crate) key: bool,
-}
-
-/// What a tick asks for, and what it gives up.
-#[derive(Debug, Drop)]
-pub(crate) struct Ticked {
-    pub(crate) numbers: ArrayVec<u64, 2048>,
-    pub(crate) lost: ArrayVec<u64, 2048>,
-    pub(crate) key: bool,
-}
-
 /// What is wanted of the sender.
 ///
 /// It has the missing numbers, each with how often it was asked for; the greatest number given up; the first number of
@@ -98,36 +83,34 @@ fn gap_from(before: Option<u64>, after: u64) -> u64
     }
 }
 
-/// The numbers from one on, below another, are missing, and are asked for at this moment.
-fn notice(asks: &mut Asks, from: u64, below: u64, now: u64) -> ArrayVec<u64, 2048>
+/// The numbers from one on, below another, are missing, and are asked for at this moment. They become the whole list.
+fn notice(asks: &mut Asks, from: u64, below: u64, now: u64, numbers: &mut ArrayVec<u64, 2048>)
     requires above { are_below from asks.old ≡ true }
     requires near { is_near (below - 1) asks.old ≡ true }
     requires few { below < from + WINDOW_SIZE }
     ensures noticed { asks.new ≡ with_all_missing now (numbers_below from below) asks.old }
-    ensures numbers { result.items ≡ numbers_below from below }
+    ensures numbers { numbers.new.items ≡ numbers_below from below }
 {
-    let mut numbers = ArrayVec::new();
+    numbers.clear();
     for n in from..below {
         asks.noticed(n, now);
         numbers.push(n);
     }
-    numbers
 }
 
 /// What is due at a moment. Its contract also says what always holds of the missing numbers.
-fn due_of(asks: &mut Asks, now: u64, interval: u32) -> Due
-    ensures ask { result.ask.items ≡ asked_numbers now interval asks.old }
-    ensures give_up { result.give_up.items ≡ given_up_numbers now interval asks.old }
+fn settle(asks: &mut Asks, now: u64, interval: u32, due: &mut Due)
+    ensures ask { due.new.ask.items ≡ asked_numbers now interval asks.old }
+    ensures give_up { due.new.give_up.items ≡ given_up_numbers now interval asks.old }
     ensures left { asks.new ≡ asks_left now interval asks.old }
     ensures sound { IsAsks asks.old }
 {
     if asks.is_empty() {
-        return Due {
-            ask: ArrayVec::new(),
-            give_up: ArrayVec::new(),
-        };
+        due.ask.clear();
+        due.give_up.clear();
+    } else {
+        *due = asks.due(now, interval);
     }
-    asks.due(now, interval)
 }
 
 impl Requests {
@@ -146,18 +129,20 @@ impl Requests {
 
     /// A packet was taken: what it is waits no more, and what it makes missing is asked for. Numbers that are passed, or
     /// that left the window, aren't missing any more. `key` is the greatest first number of a keyframe that stands.
+    /// The numbers to ask for become the whole list, and the result says whether a keyframe is asked for.
     pub(crate) fn taken(
         &mut self,
         now: u64,
         arrival: &Arrival,
         front: Option<u64>,
         key: Option<u64>,
-    ) -> Asked
+        numbers: &mut ArrayVec<u64, 2048>,
+    ) -> bool
         requires below { AreBelow arrival.now.newest self.old.asks }
         requires short { IfSome arrival.now.newest (λ m. m < 2 ^ 62) }
         ensures wanted { self.new ≡ wanted_taken now arrival.now front key self.old }
-        ensures numbers { result.numbers.items ≡ gap_of arrival.now.newest arrival.now.number }
-        ensures key { result.key ≡ key_taken now arrival.now key self.old }
+        ensures numbers { numbers.new.items ≡ gap_of arrival.now.newest arrival.now.number }
+        ensures key { result ≡ key_taken now arrival.now key self.old }
         ensures sound { IsAsks self.old.asks }
     {
         // What always holds of the missing numbers is a clause of this call.
@@ -166,41 +151,37 @@ impl Requests {
         self.asks.arrived(arrival.number);
         self.asks.passed(after.saturating_sub(WINDOW));
         self.pass(front);
-        let numbers = notice(&mut self.asks, gap_from(arrival.newest, after), after, now);
+        let from = gap_from(arrival.newest, after);
+        notice(&mut self.asks, from, after, now, numbers);
         self.lost = later_of(arrival.lost, self.lost);
         if arrival.key {
             self.keyed = true;
             self.key_ask.completed();
         }
         let wants = is_lost_open(key, self.key_pulled, arrival.lost);
-        Asked {
-            numbers,
-            key: self.key_ask.decide(now, wants),
-        }
+        self.key_ask.decide(now, wants)
     }
 
     /// Time has passed: what is due is asked for again, or given up. `started` says whether a packet was ever taken.
+    /// The result says whether a keyframe is asked for.
     pub(crate) fn ticked(
         &mut self,
         now: u64,
         interval: u32,
         started: bool,
         key: Option<u64>,
-    ) -> Ticked
+        due: &mut Due,
+    ) -> bool
         ensures wanted { self.new ≡ wanted_ticked now interval started key self.old }
-        ensures numbers { result.numbers.items ≡ asked_numbers now interval self.old.asks }
-        ensures lost { result.lost.items ≡ given_up_numbers now interval self.old.asks }
-        ensures key { result.key ≡ asks_key now (needs_key now interval started key self.old) self.old.key_asked }
+        ensures numbers { due.new.ask.items ≡ asked_numbers now interval self.old.asks }
+        ensures lost { due.new.give_up.items ≡ given_up_numbers now interval self.old.asks }
+        ensures key { result ≡ asks_key now (needs_key now interval started key self.old) self.old.key_asked }
         ensures sound { IsAsks self.old.asks }
     {
-        let due = due_of(&mut self.asks, now, interval);
+        settle(&mut self.asks, now, interval, due);
         self.lost = later_of(last_of(due.give_up.as_slice()), self.lost);
         let wants = is_lost_open(key, self.key_pulled, self.lost) || (started && !self.keyed);
-        Ticked {
-            numbers: due.ask,
-            lost: due.give_up,
-            key: self.key_ask.decide(now, wants),
-        }
+        self.key_ask.decide(now, wants)
     }
 
     /// A frame was pulled: it is a keyframe or not, and its first number is this.

@@ -6,6 +6,6 @@ use Rattle.vrx_core.proofs.engine.ask.Goals as goal
 pub nack_unless_none-requires : goal.nack_unless_none-requires
 nack_unless_none-requires g c =
     record {
-      near = subst AreNear (sym (c.as_slice.ensures.value ∙ c.taken-asked.ensures.numbers))
+      near = subst AreNear (sym (c.as_slice.ensures.value ∙ c.taken-asks_key.ensures.numbers))
           (near-gap c.in-Some.arrival.newest c.in-Some.arrival.number);
     }

@@ -20,7 +20,7 @@ use Rattle.vrx_core.proofs.engine.Engine.tick.Goals as goal
 lost-is : (g : given.Over) (c : goal.After-as_slice g) →
     c.as_slice.result.now ≡ given_up_numbers c.now-now.result c.settings.result.now.interval
     c.self.inside.requests.asks
-lost-is g c = c.as_slice.ensures.value ∙ c.ticked-ticked.ensures.lost
+lost-is g c = c.as_slice.ensures.value ∙ c.ticked-asks_key.ensures.lost
 
 pub give_up_all-requires : goal.give_up_all-requires
 give_up_all-requires g c = record {
@@ -29,14 +29,14 @@ give_up_all-requires g c = record {
       CanGiveUpAll (given_up_numbers c.now-now.result c.settings.result.now.interval c.self.inside.requests.asks)
       a.window) (sym c.count.ensures.counted)
       (can-give-up c.self.inside.assembler.window c.now-now.result c.settings.result.now.interval
-      c.self.inside.requests.asks c.ticked-ticked.ensures.sound c.self.invariant.fresh));
+      c.self.inside.requests.asks c.ticked-asks_key.ensures.sound c.self.invariant.fresh));
 }
 
 pub nack_unless_none-requires : goal.nack_unless_none-requires
 nack_unless_none-requires g c = record {
-  near = subst AreNear (sym (c.as_slice-2.ensures.value ∙ c.ticked-ticked.ensures.numbers))
+  near = subst AreNear (sym (c.as_slice-2.ensures.value ∙ c.ticked-asks_key.ensures.numbers))
       (near-asked c.now-now.result c.settings.result.now.interval c.self.inside.requests.asks
-      c.ticked-ticked.ensures.sound);
+      c.ticked-asks_key.ensures.sound);
 }
 
 -- the clock and the settings at the tick
@@ -52,7 +52,7 @@ numbers-are : (g : given.Over) (c : goal.After-pli_if g) →
     c.as_slice.result.now ≡ given_up_numbers
     (max c.self.inside.assembler.clock c.args.moment) c.self.inside.assembler.settings.interval
     c.self.inside.requests.asks
-numbers-are g c = c.as_slice.ensures.value ∙ c.ticked-ticked.ensures.lost
+numbers-are g c = c.as_slice.ensures.value ∙ c.ticked-asks_key.ensures.lost
     ∙ (λ i. given_up_numbers (now-is g c i) (settings-are g c i).interval c.self.inside.requests.asks)
 
 after-is : (g : given.Over) (c : goal.After-pli_if g) →
@@ -81,11 +81,11 @@ key-is g c = c.greatest_key-key.ensures.value
     ∙ ap (λ (a : Assembly). greatest_of (key_numbers a.frames)) c.count.ensures.counted
 
 wanted-is : (g : given.Over) (c : goal.After-pli_if g) →
-    c.ticked-ticked.new.self ≡ wanted_ticked
+    c.ticked-asks_key.new.self ≡ wanted_ticked
     (max c.self.inside.assembler.clock c.args.moment) c.self.inside.assembler.settings.interval
     (is_some c.self.inside.assembler.window.newest)
     (greatest_of (key_numbers c.self.inside.assembler.frames)) c.self.inside.requests
-wanted-is g c = c.ticked-ticked.ensures.wanted
+wanted-is g c = c.ticked-asks_key.ensures.wanted
     ∙ (λ i. wanted_ticked (now-is g c i) (settings-are g c i).interval (started-is g c i)
     (key-is g c i) c.self.inside.requests)
 
@@ -94,40 +94,40 @@ invariant_of-self g c =
     let a = c.self.inside.assembler in
     record {
       whole = c.give_up_all.ensures.after;
-      fresh = subst (λ (w : Contents Held). AreFresh w c.ticked-ticked.new.self.asks)
+      fresh = subst (λ (w : Contents Held). AreFresh w c.ticked-asks_key.new.self.asks)
           (sym (ap (λ (b : Assembly). b.window) (after-is g c)))
           (subst (λ (w : Wanted). AreFresh
           (given_up_all (given_up_numbers (max a.clock c.args.moment) a.settings.interval c.self.inside.requests.asks)
           a.window) w.asks) (sym (wanted-is g c))
           (fresh-ticked a.window (max a.clock c.args.moment) a.settings.interval c.self.inside.requests.asks
-          c.ticked-ticked.ensures.sound c.self.invariant.fresh));
+          c.ticked-asks_key.ensures.sound c.self.invariant.fresh));
     }
 
 pub returns-clause-stands : goal.returns-clause-stands
 returns-clause-stands g c =
     let i = c.self.inside in
     subst (λ (p : EngineParts). (h : List Event) → StandsFor g.C.Codec.meaning p h →
-    StandsFor g.C.Codec.meaning (parts_of c.give_up_all.new.self c.ticked-ticked.new.self) (Tick c.args.moment ∷ h))
+    StandsFor g.C.Codec.meaning (parts_of c.give_up_all.new.self c.ticked-asks_key.new.self) (Tick c.args.moment ∷ h))
     c.self.view_is
     (λ h stands. subst (λ (w : Wanted).
     StandsFor g.C.Codec.meaning (parts_of c.give_up_all.new.self w) (Tick c.args.moment ∷ h)) (sym (wanted-is g c))
     (tick-stands-for c.runs_are.ensures g.C.Codec.meaning i.assembler c.give_up_all.new.self i.requests c.args.moment
-    h stands c.ticked-ticked.ensures.sound (after-is g c)))
+    h stands c.ticked-asks_key.ensures.sound (after-is g c)))
 
 asked-are : (g : given.Over) (c : goal.After-pli_if g) →
     c.as_slice-2.result.now ≡ asked_numbers
     (max c.self.inside.assembler.clock c.args.moment) c.self.inside.assembler.settings.interval
     c.self.inside.requests.asks
-asked-are g c = c.as_slice-2.ensures.value ∙ c.ticked-ticked.ensures.numbers
+asked-are g c = c.as_slice-2.ensures.value ∙ c.ticked-asks_key.ensures.numbers
     ∙ (λ i. asked_numbers (now-is g c i) (settings-are g c i).interval c.self.inside.requests.asks)
 
 asks-is : (g : given.Over) (c : goal.After-pli_if g) →
-    c.ticked-ticked.result.key ≡ asks_key (max c.self.inside.assembler.clock c.args.moment)
+    c.ticked-asks_key.result ≡ asks_key (max c.self.inside.assembler.clock c.args.moment)
     (needs_key (max c.self.inside.assembler.clock c.args.moment) c.self.inside.assembler.settings.interval
     (is_some c.self.inside.assembler.window.newest)
     (greatest_of (key_numbers c.self.inside.assembler.frames)) c.self.inside.requests)
     c.self.inside.requests.key_asked
-asks-is g c = c.ticked-ticked.ensures.key
+asks-is g c = c.ticked-asks_key.ensures.key
     ∙ (λ i. asks_key (now-is g c i)
     (needs_key (now-is g c i) (settings-are g c i).interval (started-is g c i) (key-is g c i) c.self.inside.requests)
     c.self.inside.requests.key_asked)
@@ -144,4 +144,4 @@ returns-clause-reply g c =
       pli = (c.pli_if.ensures ∙ (λ k. pli_for (c.settings-settings.ensures.value k) (asks-is g c k))) j;
     }))
     ∙ tick-reply c.runs_are.ensures g.C.Codec.meaning i.assembler c.give_up_all.new.self i.requests c.args.moment h
-    stands c.ticked-ticked.ensures.sound (after-is g c))
+    stands c.ticked-asks_key.ensures.sound (after-is g c))
