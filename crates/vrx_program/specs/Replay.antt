@@ -90,7 +90,7 @@ replay_outcome capture = outcome_of (call_of capture)
 abbrev pub replaying : Settings → Meaning → Answering
 replaying settings codec = record { text = λ h k event. text_of k (reply settings codec h event) }
 
--- why no engine stands for settings with this fault: RED and retransmissions are right, and not taken yet
+-- why no engine stands for settings with this fault: RED and retransmissions are right, and a replay takes neither
 abbrev pub hindrance_of : NewFault → Unanswered
 hindrance_of faults.NoMemory = unanswered.NoMemory
 hindrance_of faults.Later = unanswered.Refused errors.Later

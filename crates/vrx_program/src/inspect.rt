@@ -28,7 +28,7 @@ fn fault_of(alloc: Global, settings: Settings) -> Option<NewFault>
     Engine::<Vp8>::new(alloc, settings).err()
 }
 
-/// Whether settings with this fault are right: their only fault is that a replay doesn't take them yet.
+/// Whether settings with this fault are right: their only fault is that a replay doesn't take them.
 fn is_right_but_for(fault: NewFault) -> Result<bool, NoMemory>
     ensures right { IfOk result (λ right. right ≡ is_right (Some fault)) }
     ensures no_memory { IfOk result (λ _. fault ≢ NewFault.NoMemory) }
