@@ -29,7 +29,7 @@ pub(crate) fn held_of<C: Codec>(
     one_reading();
     match seen.brought {
         PayloadSeen::Media(part) => Ok(Held::Media {
-            text: text_of(alloc, octets, &seen.packet)?,
+            text: text_of(alloc, octets, seen)?,
             marker: seen.packet.marker,
             ts: seen.packet.ts,
             start: part.start,

@@ -5,15 +5,18 @@ ghost use Rattle.std.specs.Result.{result_map_both};
 ghost use Rattle.vrx_rtp.specs.Reading.{reading, read as packet_read};
 ghost use Rattle.vrx_rtp.specs.View.{view};
 ghost use Rattle.vrx_rtp.specs.Packet.{IsPacket};
-ghost use Rattle.vrx_core.specs.machine.Original.{content_by, original_of as packet_original, fault_reason as fault_reason_of, original_read, control as control_of, original as original_of_octets};
+ghost use Rattle.vrx_wrap.specs.View.{view_apt};
+ghost use Rattle.vrx_core.specs.machine.Original.{apt_of as apt_of_settings, content_by, control as control_of, fault_reason as fault_reason_of, is_red_type, media_packet as media_packet_of, original as original_of_octets, original_from, original_of as packet_original, original_read, out_of_red as out_of_red_of};
 ghost use Rattle.vrx_core.specs.inside.Seen.{view_brought, view_original, Says, IsSeen};
 
 use crate::reply::Reason;
-use crate::settings::Settings;
+use crate::settings::{Rtx, Settings};
+use arrayvec::ArrayVec;
 use vrx_codec::{Codec, Part};
 use vrx_num::limits::MOST_OCTETS;
 use vrx_rtcp::read_compound;
 use vrx_rtp::{RtpFaultKind, RtpView, is_rtcp, read};
+use vrx_wrap::{Apt, RedFault, RtxFault, red_read, rtx_read};
 
 /// What becomes of a datagram that isn't taken.
 #[derive(Clone, Copy, Debug, PartialEq, Eq)]
@@ -36,8 +39,10 @@ pub(crate) enum PayloadSeen<'a> {
 /// A packet of the stream, seen where it lies, and what it brings.
 #[derive(Clone, Copy)]
 pub(crate) struct PacketSeen<'a> {
-    /// The packet.
+    /// The packet, out of RED, and the original if it came as a retransmission.
     pub(crate) packet: RtpView<'a>,
+    /// Whether the datagram is this packet as it stands: no RED, no retransmission, no padding.
+    pub(crate) bare: bool,
     /// What it brings.
     pub(crate) brought: PayloadSeen<'a>,
 }
@@ -59,28 +64,99 @@ fn brought_in<'a, C: Codec>(payload: &'a [u8]) -> Result<PayloadSeen<'a>, Reason
     }
 }
 
+/// What retransmissions are of (RFC 4588 8.6): media, and RED if it comes again.
+fn apt_of(settings: &Settings, rtx: &Rtx) -> Apt
+    ensures { view_apt result ≡ apt_of_settings settings.now rtx.now }
+{
+    let mut pairs = ArrayVec::new();
+    pairs.push((rtx.media_rtx_type, settings.media_type));
+    if let (Some(red_rtx_type), Some(red)) = (rtx.red_rtx_type, settings.red) {
+        pairs.push((red_rtx_type, red.red_type));
+    }
+    Apt {
+        pairs,
+        media_ssrc: settings.media_ssrc,
+    }
+}
+
+/// Whether a payload type is that of RED.
+fn is_red(settings: &Settings, pt: u8) -> bool
+    ensures { result ≡ is_red_type settings.now pt }
+{
+    settings.red.is_some_and(|red| red.red_type == pt)
+}
+
+/// The original of a retransmission (RFC 4588 4), or why there is none.
+fn sent_again<'a>(settings: &Settings, packet: &RtpView<'a>) -> Result<RtpView<'a>, Reason>
+    ensures value { original_from settings.now (view packet.now) settings.now.rtx ≡ result_map_both view (λ reason. reason) result }
+{
+    let Some(rtx) = settings.rtx else {
+        return Err(Reason::OtherSsrc);
+    };
+    if packet.ssrc != rtx.ssrc {
+        return Err(Reason::OtherSsrc);
+    }
+    match rtx_read(packet, &apt_of(settings, &rtx)) {
+        Ok(original) => Ok(original),
+        Err(RtxFault::NoApt) => Err(Reason::NoApt),
+        Err(RtxFault::RtxEmpty) => Err(Reason::RtxEmpty),
+    }
+}
+
+/// The packet of the media source that a packet is: itself, or the original of a retransmission.
+fn media_packet<'a>(settings: &Settings, packet: &RtpView<'a>) -> Result<RtpView<'a>, Reason>
+    ensures value { media_packet_of settings.now (view packet.now) ≡ result_map_both view (λ reason. reason) result }
+{
+    if packet.ssrc != settings.media_ssrc {
+        return sent_again(settings, packet);
+    }
+    if packet.pt != settings.media_type && !is_red(settings, packet.pt) {
+        return Err(Reason::OtherType);
+    }
+    Ok(*packet)
+}
+
+/// The packet out of RED (RFC 2198 3), if it is in RED.
+fn out_of_red<'a>(settings: &Settings, packet: &RtpView<'a>) -> Result<RtpView<'a>, Reason>
+    ensures value { out_of_red_of settings.now (view packet.now) ≡ result_map_both view (λ reason. reason) result }
+{
+    if !is_red(settings, packet.pt) {
+        return Ok(*packet);
+    }
+    let payload = match red_read(packet.payload) {
+        Err(RedFault::Empty) => packet.payload,
+        Err(RedFault::MoreBlocks) => return Err(Reason::MoreBlocks),
+        Ok(block) => {
+            if block.pt != settings.media_type {
+                return Err(Reason::BadRed);
+            }
+            block.rest
+        }
+    };
+    Ok(RtpView {
+        pt: settings.media_type,
+        payload,
+        ..*packet
+    })
+}
+
 /// What a packet is, or why it is refused.
 fn original_of<'a, C: Codec>(
     settings: &Settings,
     packet: &RtpView<'a>,
 ) -> Result<PacketSeen<'a>, Reason>
     ensures value { packet_original settings.now C.meaning (view packet.now) ≡ result_map_both view_original (λ reason. reason) result }
-    ensures packet { IfOk result (λ seen. seen.packet ≡ packet.now) }
-    ensures says { IfOk result (λ seen. Says C.meaning packet.now.payload.now seen.brought) }
+    ensures says { IfOk result (λ seen. Says C.meaning seen.packet.payload.now seen.brought) }
 {
-    if packet.ssrc != settings.media_ssrc {
-        return Err(Reason::OtherSsrc);
-    }
-    if packet.pt != settings.media_type {
-        return Err(Reason::OtherType);
-    }
-    match brought_in::<C>(packet.payload) {
-        Err(reason) => Err(reason),
-        Ok(brought) => Ok(PacketSeen {
-            packet: *packet,
-            brought,
-        }),
-    }
+    let plain = out_of_red(settings, &media_packet(settings, packet)?)?;
+    let brought = brought_in::<C>(plain.payload)?;
+    Ok(PacketSeen {
+        packet: plain,
+        bare: packet.ssrc == settings.media_ssrc
+            && packet.pt == settings.media_type
+            && packet.padding == 0,
+        brought,
+    })
 }
 
 /// Why octets are refused that are no packet.

@@ -9,9 +9,9 @@ pub struct Settings {
     pub media_ssrc: u32,
     /// The payload type of the media packets: below 64, or 96 to 127.
     pub media_type: u8,
-    /// The payload types of RED, if media may come in it. `Engine::new` doesn't take it.
+    /// The payload types of RED, if media may come in it.
     pub red: Option<Red>,
-    /// The stream of retransmissions, if there is one. `Engine::new` doesn't take it.
+    /// The stream of retransmissions, if there is one.
     pub rtx: Option<Rtx>,
     /// The SSRC under which this receiver sends its feedback.
     pub from_ssrc: u32,
@@ -24,7 +24,7 @@ pub struct Settings {
 pub struct Red {
     /// The payload type of the RED packets.
     pub red_type: u8,
-    /// The payload type of the ULPFEC blocks in them (RFC 5109), where there are any.
+    /// The payload type of the ULPFEC blocks in them (RFC 5109), if there are any. `Engine::new` doesn't take it.
     pub fec_type: Option<u8>,
 }
 
@@ -57,8 +57,8 @@ pub enum NewFault {
     /// The interval of requests is 0 or above 60,000.
     #[error("the interval is 0 or above 60,000")]
     BadInterval,
-    /// RED or retransmissions are given, which the receiver doesn't take.
-    #[error("RED and retransmissions are not taken")]
+    /// A payload type of FEC is given, which the receiver doesn't take.
+    #[error("FEC is not taken")]
     Later,
     /// No memory was to be had.
     #[error("out of memory")]

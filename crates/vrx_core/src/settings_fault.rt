@@ -119,7 +119,7 @@ pub(crate) fn fault_of(settings: &Settings) -> Option<NewFault>
     if is_bad_interval(settings.interval) {
         return Some(NewFault::BadInterval);
     }
-    if settings.red.is_some() || settings.rtx.is_some() {
+    if settings.red.is_some_and(|red| red.fec_type.is_some()) {
         return Some(NewFault::Later);
     }
     None

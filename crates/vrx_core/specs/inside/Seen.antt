@@ -1,8 +1,8 @@
 -- What the types that see a packet where it lies stand for.
-use Rattle.std.specs.Prelude.{◌≡◌, ◌≢◌, ◌≤◌, ℕ, List, [], length, None, Some, Ok}
+use Rattle.std.specs.Prelude.{◌≡◌, ◌≢◌, ◌≤◌, ℕ, true, List, [], length, None, Ok}
 use Rattle.vrx_num.specs.declared.limits.TheConstants.{MOST_OCTETS}
-use Rattle.vrx_rtp.specs.Packet.{IsPacket}
-use Rattle.vrx_rtp.specs.Reading.{read}
+use Rattle.vrx_num.specs.Octets.{AreOctets}
+use Rattle.vrx_rtp.specs.Packet.{Fits}
 use Rattle.vrx_rtp.specs.View.{view}
 use Rattle.vrx_codec.specs.View.{view as view_part}
 use Rattle.vrx_codec.specs.Meaning.{Meaning}
@@ -30,11 +30,13 @@ Says codec payload (brings.Media part) = (payload ≢ []) × (codec.read payload
     × (part.layers ≡ None) × (length part.body.now ≤ length payload)
 Says codec payload brings.Empty = payload ≡ []
 
--- octets are this packet, and its payload says what was seen in it
+-- what octets were seen to bring: a packet whose text fits, isn't longer than they may be, and is the octets themselves
+-- if the packet came bare; and its payload says what was seen in it
 pub record IsSeen (codec : Meaning) (octets : List ℕ) (seen : PacketSeen) : Type 0 where
-  pub size : length octets ≤ MOST_OCTETS
-  pub reads : read octets ≡ Some (view seen.packet)
-  pub grammar : IsPacket octets (view seen.packet)
+  pub fits : Fits (view seen.packet)
+  pub below : AreOctets (packet_text (view seen.packet))
+  pub size : length (packet_text (view seen.packet)) ≤ MOST_OCTETS
+  pub bare : seen.bare ≡ true → packet_text (view seen.packet) ≡ octets
   pub says : Says codec seen.packet.payload.now seen.brought
 
 -- what a datagram is taken as: its number, and what it brings

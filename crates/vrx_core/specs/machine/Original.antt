@@ -1,6 +1,8 @@
 -- What octets are, whatever came before: the rows of the table of reasons that ask for nothing else.
-use Rattle.std.specs.Prelude.{ℕ, not, ◌==◌, nat_lt, if◌then◌else◌, List, [], ◌∷◌, length, is_some, Result, Ok, Err}
+use Rattle.std.specs.Prelude.{ℕ, Bool, false, ◌||◌, ◌==◌, nat_lt, if◌then◌else◌, List, [], ◌∷◌, length, Option, None, Some, is_some, Result, Ok, Err}
+use Rattle.std.specs.Option.{option_map_or}
 use Rattle.std.specs.Result.{result_map_both}
+use Rattle.vrx_num.specs.ResultChain.{◌>>=◌}
 use Rattle.vrx_num.specs.declared.limits.TheConstants.{MOST_OCTETS}
 use Rattle.vrx_rtp.specs.Packet.{Packet}
 use Rattle.vrx_rtp.specs.Reading.{reading}
@@ -9,6 +11,12 @@ use Rattle.vrx_rtp.specs.declared.fault.RtpFault.{RtpFault}
 use Rattle.vrx_rtp.specs.declared.fault.RtpFaultKind.{RtpFaultKind}
 use Rattle.vrx_rtp.specs.declared.fault.RtpFaultKind.TheVariants.{Short, Version, CsrcPastEnd, ExtensionPastEnd, PaddingPastEnd}
 use Rattle.vrx_rtcp.specs.Compound.{is_compound}
+use Rattle.vrx_wrap.specs.Red.{Block, block_of}
+use Rattle.vrx_wrap.specs.Rtx.{Apt, original_of as rtx_original}
+use Rattle.vrx_wrap.specs.declared.red.RedFault.{RedFault}
+use Rattle.vrx_wrap.specs.declared.red.RedFault.TheVariants as reds
+use Rattle.vrx_wrap.specs.declared.rtx.RtxFault.{RtxFault}
+use Rattle.vrx_wrap.specs.declared.rtx.RtxFault.TheVariants as faults
 use Rattle.vrx_codec.specs.Part.{Part}
 use Rattle.vrx_codec.specs.declared.fault.PartFault.{PartFault}
 use Rattle.vrx_codec.specs.Meaning.{Meaning}
@@ -17,7 +25,9 @@ use Rattle.vrx_core.specs.machine.Text.{packet_text}
 use Rattle.vrx_core.specs.declared.original.NotTaken.{NotTaken}
 use Rattle.vrx_core.specs.declared.original.NotTaken.TheVariants.{Control, Refused}
 use Rattle.vrx_core.specs.declared.reply.Reason.{Reason}
-use Rattle.vrx_core.specs.declared.reply.Reason.TheVariants.{TooLong, BadRtcp, NotRtp, BadHeader, OtherSsrc, OtherType, BadPart, Form}
+use Rattle.vrx_core.specs.declared.reply.Reason.TheVariants.{TooLong, BadRtcp, NotRtp, BadHeader, OtherSsrc, OtherType, NoApt, RtxEmpty, MoreBlocks, BadRed, BadPart, Form}
+use Rattle.vrx_core.specs.declared.settings.Red.{Red}
+use Rattle.vrx_core.specs.declared.settings.Rtx.{Rtx}
 use Rattle.vrx_core.specs.declared.settings.Settings.{Settings}
 
 -- a packet of the stream, as it was sent: its sequence number of 16 bits (RFC 3550 5.1), and what it brings
@@ -36,13 +46,68 @@ abbrev pub content_by : Meaning → (text payload : List ℕ) → Result Content
 content_by codec text [] = Ok Empty
 content_by codec text (octet ∷ octets) = part_content text (codec.read (octet ∷ octets))
 
--- what an RTP packet is: its SSRC is the media SSRC, and its payload type the media type; and what it brings
+-- what a media packet is: its number, and what it brings
+abbrev pub original_in : Meaning → Packet → Result Original Reason
+original_in codec packet = result_map_both (λ content. record { wire = packet.seq; content = content }) (λ reason. reason)
+    (content_by codec (packet_text packet) packet.payload)
+
+-- the payload type under which RED packets come again, with that of RED, if they do
+abbrev pub red_pair : Option ℕ → Option Red → List (ℕ × ℕ)
+red_pair (Some red_rtx_type) (Some red) = (red_rtx_type, red.red_type) ∷ []
+red_pair red_rtx_type red = []
+
+-- what retransmissions are of (RFC 4588 8.6): media, and RED if it comes again
+abbrev pub apt_of : Settings → Rtx → Apt
+apt_of settings rtx = record {
+  pairs = (rtx.media_rtx_type, settings.media_type) ∷ red_pair rtx.red_rtx_type settings.red;
+  media_ssrc = settings.media_ssrc;
+}
+
+-- a payload type is that of RED
+abbrev pub is_red_type : Settings → ℕ → Bool
+is_red_type settings pt = option_map_or (λ red. red.red_type == pt) settings.red false
+
+-- why a retransmission has no original
+abbrev pub rtx_reason : RtxFault → Reason
+rtx_reason faults.NoApt = NoApt
+rtx_reason faults.RtxEmpty = RtxEmpty
+
+-- the original of a packet of the source of retransmissions, if there is such a source (RFC 4588 4)
+abbrev pub original_from : Settings → Packet → Option Rtx → Result Packet Reason
+original_from settings packet None = Err OtherSsrc
+original_from settings packet (Some rtx) =
+    if packet.ssrc == rtx.ssrc
+    then result_map_both (λ original. original) rtx_reason (rtx_original (apt_of settings rtx) packet)
+    else Err OtherSsrc
+
+-- the packet of the media source that a packet is: itself, if its payload type is that of media or of RED; or the
+-- original of a retransmission
+abbrev pub media_packet : Settings → Packet → Result Packet Reason
+media_packet settings packet =
+    if packet.ssrc == settings.media_ssrc
+    then (if (packet.pt == settings.media_type) || is_red_type settings packet.pt then Ok packet else Err OtherType)
+    else original_from settings packet settings.rtx
+
+-- a packet as the media packet of this payload
+abbrev pub as_media : Settings → Packet → List ℕ → Packet
+as_media settings packet payload = record packet { pt = settings.media_type; payload = payload }
+
+-- the media packet of a RED packet, by its one block (RFC 2198 3). Without a payload it is an empty packet
+abbrev pub from_block : Settings → Packet → Result Block RedFault → Result Packet Reason
+from_block settings packet (Err reds.Empty) = Ok (as_media settings packet [])
+from_block settings packet (Err reds.MoreBlocks) = Err MoreBlocks
+from_block settings packet (Ok block) =
+    if block.pt == settings.media_type then Ok (as_media settings packet block.rest) else Err BadRed
+
+-- the packet out of RED, if it is in RED
+abbrev pub out_of_red : Settings → Packet → Result Packet Reason
+out_of_red settings packet =
+    if is_red_type settings packet.pt then from_block settings packet (block_of packet.payload) else Ok packet
+
+-- what an RTP packet is: the packet of the media source, out of RED
 abbrev pub original_of : Settings → Meaning → Packet → Result Original Reason
 original_of settings codec packet =
-    if not (packet.ssrc == settings.media_ssrc) then Err OtherSsrc
-    else if not (packet.pt == settings.media_type) then Err OtherType
-    else result_map_both (λ content. record { wire = packet.seq; content = content }) (λ reason. reason)
-    (content_by codec (packet_text packet) packet.payload)
+    media_packet settings packet >>= λ sent. out_of_red settings sent >>= λ plain. original_in codec plain
 
 -- why octets are refused that are no packet (RFC 3550 5.1)
 abbrev pub fault_reason : RtpFaultKind → Reason

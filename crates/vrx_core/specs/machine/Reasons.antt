@@ -11,20 +11,24 @@ use Rattle.vrx_rtp.specs.declared.fault.RtpFaultKind.{RtpFaultKind}
 use Rattle.vrx_rtp.specs.declared.fault.RtpFaultKind.TheVariants.{Short, Version, CsrcPastEnd, ExtensionPastEnd, PaddingPastEnd}
 use Rattle.vrx_rtcp.specs.Compound.{SpelledPacket, IsCompound, HasFault}
 use Rattle.vrx_rtcp.specs.declared.fault.RtcpFault.{RtcpFault}
+use Rattle.vrx_wrap.specs.Red.{Block, IsRed, HasMore}
+use Rattle.vrx_wrap.specs.Rtx.{IsOriginal, IsRtxType}
 use Rattle.vrx_codec.specs.Part.{Part}
 use Rattle.vrx_codec.specs.declared.part.Layers.{Layers}
 use Rattle.vrx_codec.specs.declared.fault.PartFault.{PartFault}
 use Rattle.vrx_codec.specs.Meaning.{Meaning}
 use Rattle.vrx_window.specs.Content.{Content, Media, Fec, Empty}
 use Rattle.vrx_window.specs.Window.{Contents, is_available, is_dead}
+use Rattle.vrx_core.specs.machine.Original.{apt_of, as_media}
 use Rattle.vrx_core.specs.machine.Text.{packet_text}
 use Rattle.vrx_core.specs.machine.Verdict.{verdict}
+use Rattle.vrx_core.specs.declared.settings.Rtx.{Rtx}
 use Rattle.vrx_core.specs.declared.settings.Settings.{Settings}
 use Rattle.vrx_core.specs.declared.original.NotTaken.{NotTaken}
 use Rattle.vrx_core.specs.declared.original.NotTaken.TheVariants.{Control, Refused}
 use Rattle.vrx_core.specs.declared.reply.What.{What}
 use Rattle.vrx_core.specs.declared.reply.What.TheVariants as whats
-use Rattle.vrx_core.specs.declared.reply.Reason.TheVariants.{TooLong, BadRtcp, NotRtp, BadHeader, OtherSsrc, OtherType, BadPart, Form, TooFar, TooOld, Dead, Repeat}
+use Rattle.vrx_core.specs.declared.reply.Reason.TheVariants.{TooLong, BadRtcp, NotRtp, BadHeader, OtherSsrc, OtherType, NoApt, RtxEmpty, MoreBlocks, BadRed, BadPart, Form, TooFar, TooOld, Dead, Repeat}
 
 -- a datagram isn't too long, and is RTCP
 pub record IsControl (octets : List ℕ) : Type 0 where
@@ -41,11 +45,55 @@ pub record IsRead (octets : List ℕ) (packet : Packet) : Type 0 where
   pub rtp : IsForRtp octets
   pub reads : reading octets ≡ Ok packet
 
--- octets are a packet of the stream
-pub record IsOfStream (settings : Settings) (octets : List ℕ) (packet : Packet) : Type 0 where
-  pub read : IsRead octets packet
+-- a payload type is that of RED
+abbrev pub IsRedType : Settings → ℕ → Type 0
+IsRedType settings pt = IsSomeAnd settings.red (λ red. red.red_type ≡ pt)
+
+-- a packet has the media SSRC, and the payload type of media or of RED
+pub record IsDirect (settings : Settings) (packet : Packet) : Type 0 where
   pub source : packet.ssrc ≡ settings.media_ssrc
-  pub type : packet.pt ≡ settings.media_type
+  pub type : (packet.pt ≡ settings.media_type) ⊎ IsRedType settings packet.pt
+
+-- a packet has the SSRC of retransmissions, and not that of media
+pub record IsAgain (settings : Settings) (packet : Packet) : Type 0 where
+  pub other : packet.ssrc ≢ settings.media_ssrc
+  pub rtx : Rtx
+  pub given : settings.rtx ≡ Some rtx
+  pub source : packet.ssrc ≡ rtx.ssrc
+
+-- a packet is this one of the media source itself, or is a retransmission, and this is its original (RFC 4588 4)
+abbrev pub IsOrAgain : Settings → Packet → Packet → Type 0
+IsOrAgain settings packet sent = (IsDirect settings packet × (sent ≡ packet))
+    ⊎ ((again : IsAgain settings packet) × IsOriginal (apt_of settings again.rtx) packet sent)
+
+-- octets bring this packet of the media source
+pub record IsSent (settings : Settings) (octets : List ℕ) (sent : Packet) : Type 0 where
+  pub packet : Packet
+  pub read : IsRead octets packet
+  pub brings : IsOrAgain settings packet sent
+
+-- a RED payload brings this one: that of its one block, of the media type (RFC 2198 3); or none, if it has no octet
+abbrev pub IsBlockOf : Settings → List ℕ → List ℕ → Type 0
+IsBlockOf settings payload rest =
+    ((payload ≡ []) × (rest ≡ [])) ⊎ IsRed payload (record { pt = settings.media_type; rest = rest })
+
+-- a packet is in RED, and this is the media packet in it
+pub record IsInRed (settings : Settings) (sent plain : Packet) : Type 0 where
+  pub red : IsRedType settings sent.pt
+  pub rest : List ℕ
+  pub block : IsBlockOf settings sent.payload rest
+  pub same : plain ≡ as_media settings sent rest
+
+-- a packet of the media source is this media packet itself, or has it in RED
+abbrev pub IsOrInRed : Settings → Packet → Packet → Type 0
+IsOrInRed settings sent plain =
+    ((IsRedType settings sent.pt → ⊥) × (plain ≡ sent)) ⊎ IsInRed settings sent plain
+
+-- octets bring this media packet of the stream
+pub record IsOfStream (settings : Settings) (octets : List ℕ) (packet : Packet) : Type 0 where
+  pub sent : Packet
+  pub is : IsSent settings octets sent
+  pub plain : IsOrInRed settings sent packet
 
 -- octets that are for RTP have this fault as such
 pub record IsMisread (octets : List ℕ) (what : RtpFaultKind) : Type 0 where
@@ -96,23 +144,36 @@ MeansAside settings codec octets (Refused NotRtp) = IsMisread octets Short ⊎ I
 -- its contributing sources, its extension or its padding run past its end
 MeansAside settings codec octets (Refused BadHeader) =
     IsMisread octets CsrcPastEnd ⊎ (IsMisread octets ExtensionPastEnd ⊎ IsMisread octets PaddingPastEnd)
--- it is a packet of another SSRC
-MeansAside settings codec octets (Refused OtherSsrc) =
-    (packet : Packet) × IsRead octets packet × (packet.ssrc ≢ settings.media_ssrc)
--- it is a packet of the media SSRC and of another payload type
-MeansAside settings codec octets (Refused OtherType) =
-    (packet : Packet) × IsRead octets packet × (packet.ssrc ≡ settings.media_ssrc) × (packet.pt ≢ settings.media_type)
--- it is a packet of the stream, and its payload isn't empty and is no part: the codec's reader finds a fault of this
+-- it is a packet of another SSRC than those of media and of retransmissions
+MeansAside settings codec octets (Refused OtherSsrc) = (packet : Packet) × IsRead octets packet
+    × (packet.ssrc ≢ settings.media_ssrc) × IfSome settings.rtx (λ rtx. packet.ssrc ≢ rtx.ssrc)
+-- it is a packet of the media SSRC, and of another payload type than those of media and of RED
+MeansAside settings codec octets (Refused OtherType) = (packet : Packet) × IsRead octets packet
+    × (packet.ssrc ≡ settings.media_ssrc) × (packet.pt ≢ settings.media_type) × (IsRedType settings packet.pt → ⊥)
+-- it is a packet of the SSRC of retransmissions, and its payload type isn't one of theirs
+MeansAside settings codec octets (Refused NoApt) = (packet : Packet) × IsRead octets packet
+    × (again : IsAgain settings packet) × (IsRtxType (apt_of settings again.rtx) packet.pt → ⊥)
+-- it is a retransmission, and its payload has no room for the original's number
+MeansAside settings codec octets (Refused RtxEmpty) = (packet : Packet) × IsRead octets packet
+    × (again : IsAgain settings packet) × IsRtxType (apt_of settings again.rtx) packet.pt
+    × (length packet.payload < 2)
+-- it brings a packet in RED, which has more than one block
+MeansAside settings codec octets (Refused MoreBlocks) =
+    (sent : Packet) × IsSent settings octets sent × IsRedType settings sent.pt × HasMore sent.payload
+-- it brings a packet in RED, whose one block has another payload type than that of media
+MeansAside settings codec octets (Refused BadRed) = (sent : Packet) × IsSent settings octets sent
+    × IsRedType settings sent.pt × (block : Block) × IsRed sent.payload block × (block.pt ≢ settings.media_type)
+-- it brings a packet of the stream, whose payload isn't empty and is no part: the codec's reader finds a fault of this
 -- code
 MeansAside settings codec octets (Refused (BadPart code)) =
     (packet : Packet) × IsOfStream settings octets packet × HasBadPart codec packet.payload code
--- it is a packet of the stream, and its payload is a part that has layers
+-- it brings a packet of the stream, whose payload is a part that has layers
 MeansAside settings codec octets (Refused Form) =
     (packet : Packet) × IsOfStream settings octets packet × HasLayers codec packet.payload
 -- no other answer comes so
 MeansAside settings codec octets (Refused _) = ⊥
 
--- a datagram is a packet of the stream that brings this
+-- a datagram brings a packet of the stream, and that brings this
 pub record IsBrought (settings : Settings) (codec : Meaning) (octets : List ℕ) (packet : Packet)
     (content : Content) : Type 0 where
   pub stream : IsOfStream settings octets packet
@@ -131,7 +192,7 @@ IsBelow newest n = IsSomeAnd newest (λ m. n + WINDOW ≤ m)
 
 -- what each verdict means, after a history that left this window
 abbrev pub Means : Settings → Meaning → Contents Content → List ℕ → Result (ℕ × Content) NotTaken → Type 0
--- the datagram is a packet of the stream, and its wire number lies just half of the number space away from the newest
+-- the datagram brings a packet of the stream, whose wire number lies just half of the number space away from the newest
 -- number
 Means settings codec window octets (Err (Refused TooFar)) = (packet : Packet) × (content : Content)
     × IsBrought settings codec octets packet content × IsHalfAway window.newest packet.seq

@@ -48,8 +48,8 @@ Says settings SameSsrc = HasEqual (ssrcs_of settings)
 Says settings RedMissing = IsSome (option_and_then (λ rtx. rtx.red_rtx_type) settings.rtx) × IsNone settings.red
 -- the interval is 0 or above 60,000 milliseconds
 Says settings BadInterval = (settings.interval ≡ 0) ⊎ (LONGEST_INTERVAL < settings.interval)
--- RED or retransmissions are given, which the receiver doesn't take
-Says settings Later = IsSome settings.red ⊎ IsSome settings.rtx
+-- a payload type of FEC is given, which the receiver doesn't take
+Says settings Later = IsSome (option_and_then (λ red. red.fec_type) settings.red)
 -- `NoMemory` says nothing of settings
 Says settings NoMemory = ⊥
 
@@ -84,7 +84,7 @@ abbrev pub is_bad_interval : ℕ → Bool
 is_bad_interval interval = (interval == 0) || nat_lt LONGEST_INTERVAL interval
 
 abbrev pub is_later : Settings → Bool
-is_later settings = is_some settings.red || is_some settings.rtx
+is_later settings = is_some (option_and_then (λ red. red.fec_type) settings.red)
 
 -- a fault, if its test says so, or else what the tests after it give
 abbrev pub first_of : Bool → NewFault → Option NewFault → Option NewFault
