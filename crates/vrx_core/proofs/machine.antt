@@ -1,6 +1,7 @@
 -- Lemmas of the machine and of its laws.
 pub mod SettingsLemmas
 pub mod TextLemmas
+pub mod SeenLemmas
 pub mod HeldLemmas
 pub mod OriginalLemmas
 pub mod ReasonLemmas

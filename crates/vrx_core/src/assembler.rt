@@ -5,6 +5,7 @@ ghost use Rattle.std.specs.List.{list_any};
 ghost use Rattle.vrx_window.specs.Content.{contents_of};
 ghost use Rattle.vrx_window.specs.Window.{is_dead as is_dead_in, is_too_old};
 ghost use Rattle.vrx_core.specs.machine.Machine.{answer_of as answer_of_left, answer_taken as answer_taken_of};
+ghost use Rattle.vrx_core.specs.machine.SettingsFault.{fault_of};
 ghost use Rattle.vrx_core.specs.machine.Verdict.{verdict as verdict_of};
 ghost use Rattle.vrx_core.specs.relation.Order.{greatest_of};
 ghost use Rattle.vrx_core.specs.relation.Frames.{next_of};
@@ -196,6 +197,7 @@ fn greatest_lost(window: &Window, front: Option<u64>, n: u64) -> Option<u64>
 impl<C: Codec> Assembler<C> {
     /// An assembler of settings that have no fault. Nothing but memory hinders it.
     pub(crate) fn new(alloc: Global, settings: Settings) -> Result<Assembler<C>, NewFault>
+        requires good { fault_of settings ≡ None }
         ensures stands { IfOk result (λ assembler. IsAssembled C.meaning assembler []) }
         ensures settings { IfOk result (λ assembler. assembler.settings ≡ settings) }
         ensures whole { IfOk result (λ assembler. IsWhole C.meaning assembler) }

@@ -141,6 +141,7 @@ impl<C: Codec> Engine<C> {
 
     /// An engine of settings that have no fault. Nothing but memory hinders it.
     fn with_settings(alloc: Global, settings: Settings) -> Result<Engine<C>, NewFault>
+        requires good { fault_of settings ≡ None }
         ensures stands { IfOk result (λ engine. StandsFor C.meaning engine []) }
         ensures settings { IfOk result (λ engine. engine.settings ≡ settings) }
         ensures no_memory { IfErr result (λ fault. fault ≡ NewFault.NoMemory) }

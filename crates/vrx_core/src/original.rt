@@ -1,13 +1,13 @@
 //! What octets are by themselves: a packet of the stream, or why they aren't taken, whatever came before.
 
-ghost use Rattle.std.specs.Prelude.{◌≡◌, ◌≤◌, ℕ, List, length, Some, IfOk};
+ghost use Rattle.std.specs.Prelude.{◌≡◌, ◌<◌, ◌≤◌, ◌^◌, ℕ, true, List, length, Ok, IfOk};
 ghost use Rattle.std.specs.Result.{result_map_both};
-ghost use Rattle.vrx_rtp.specs.Reading.{reading, read as packet_read};
+ghost use Rattle.vrx_num.specs.declared.limits.TheConstants.{MOST_OCTETS};
+ghost use Rattle.vrx_rtp.specs.Reading.{reading};
 ghost use Rattle.vrx_rtp.specs.View.{view};
-ghost use Rattle.vrx_rtp.specs.Packet.{IsPacket};
 ghost use Rattle.vrx_wrap.specs.View.{view_apt};
 ghost use Rattle.vrx_core.specs.machine.Original.{apt_of as apt_of_settings, content_by, control as control_of, fault_reason as fault_reason_of, is_red_type, media_packet as media_packet_of, original as original_of_octets, original_from, original_of as packet_original, original_read, out_of_red as out_of_red_of};
-ghost use Rattle.vrx_core.specs.inside.Seen.{view_brought, view_original, Says, IsSeen};
+ghost use Rattle.vrx_core.specs.inside.Seen.{HasTypes, packet_brought, view_brought, view_original, Says, IsSeen};
 
 use crate::reply::Reason;
 use crate::settings::{Rtx, Settings};
@@ -16,7 +16,7 @@ use vrx_codec::{Codec, Part};
 use vrx_num::limits::MOST_OCTETS;
 use vrx_rtcp::read_compound;
 use vrx_rtp::{RtpFaultKind, RtpView, is_rtcp, read};
-use vrx_wrap::{Apt, RedFault, RtxFault, red_read, rtx_read};
+use vrx_wrap::{Apt, RedFault, RtxFault, one_block, one_original, red_read, rtx_read};
 
 /// What becomes of a datagram that isn't taken.
 #[derive(Clone, Copy, Debug, PartialEq, Eq)]
@@ -146,14 +146,17 @@ fn original_of<'a, C: Codec>(
     packet: &RtpView<'a>,
 ) -> Result<PacketSeen<'a>, Reason>
     ensures value { packet_original settings.now C.meaning (view packet.now) ≡ result_map_both view_original (λ reason. reason) result }
+    ensures packet { IfOk result (λ seen. packet_brought settings.now (view packet.now) ≡ Ok (view seen.packet)) }
+    ensures bare { IfOk result (λ seen. seen.bare ≡ true → (view seen.packet ≡ view packet.now) × (packet.now.padding ≡ 0)) }
     ensures says { IfOk result (λ seen. Says C.meaning seen.packet.payload.now seen.brought) }
 {
-    let plain = out_of_red(settings, &media_packet(settings, packet)?)?;
+    let sent = media_packet(settings, packet)?;
+    let plain = out_of_red(settings, &sent)?;
     let brought = brought_in::<C>(plain.payload)?;
     Ok(PacketSeen {
         packet: plain,
         bare: packet.ssrc == settings.media_ssrc
-            && packet.pt == settings.media_type
+            && !is_red(settings, packet.pt)
             && packet.padding == 0,
         brought,
     })
@@ -183,16 +186,25 @@ fn control(octets: &[u8]) -> NotTaken
     }
 }
 
+/// An SSRC has 32 bits. The function does nothing.
+fn has_32_bits(ssrc: u32)
+    ensures fits { ssrc < 2 ^ 32 }
+{}
+
 /// What octets are that aren't RTCP, or why they are refused.
 fn original_in<'a, C: Codec>(
     settings: &Settings,
     octets: &'a [u8],
 ) -> Result<PacketSeen<'a>, Reason>
+    requires types { HasTypes settings.now }
+    requires size { length octets.now ≤ MOST_OCTETS }
     ensures value { original_read settings.now C.meaning (reading octets.now) ≡ result_map_both view_original (λ reason. reason) result }
-    ensures reads { IfOk result (λ seen. packet_read octets.now ≡ Some (view seen.packet)) }
-    ensures grammar { IfOk result (λ seen. IsPacket octets.now (view seen.packet)) }
-    ensures says { IfOk result (λ seen. Says C.meaning seen.packet.payload.now seen.brought) }
+    ensures seen { IfOk result (λ seen. IsSeen C.meaning octets.now seen) }
 {
+    // These cite the laws of retransmissions and of RED, and the width of an SSRC, and do nothing.
+    one_original();
+    one_block();
+    has_32_bits(settings.media_ssrc);
     match read(octets) {
         Err(fault) => Err(fault_reason(fault.kind)),
         Ok(packet) => original_of::<C>(settings, &packet),
@@ -204,6 +216,7 @@ pub(crate) fn original<'a, C: Codec>(
     settings: &Settings,
     octets: &'a [u8],
 ) -> Result<PacketSeen<'a>, NotTaken>
+    requires types { HasTypes settings.now }
     ensures value { original_of_octets settings.now C.meaning octets.now ≡ result_map_both view_original (λ left. left) result }
     ensures seen { IfOk result (λ seen. IsSeen C.meaning octets.now seen) }
 {

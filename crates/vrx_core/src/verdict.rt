@@ -6,7 +6,7 @@ ghost use Rattle.vrx_window.specs.Content.{contents_of};
 ghost use Rattle.vrx_window.specs.Window.{would_of};
 ghost use Rattle.vrx_window.specs.declared.placing.Placing.TheVariants as placings;
 ghost use Rattle.vrx_core.specs.machine.Verdict.{verdict as verdict_of};
-ghost use Rattle.vrx_core.specs.inside.Seen.{view_taken, IsSeen};
+ghost use Rattle.vrx_core.specs.inside.Seen.{HasTypes, view_taken, IsSeen};
 
 use crate::original::{NotTaken, PacketSeen, original};
 use crate::reply::Reason;
@@ -32,6 +32,7 @@ pub(crate) fn verdict<'a, C: Codec>(
     window: &Window,
     octets: &'a [u8],
 ) -> Result<TakenPacket<'a>, NotTaken>
+    requires types { HasTypes settings.now }
     requires same { extender.now ≡ window.now.newest }
     ensures value { verdict_of settings.now C.meaning (contents_of window.now) octets.now ≡ result_map_both view_taken (λ left. left) result }
     ensures seen { IfOk result (λ taken. IsSeen C.meaning octets.now taken.seen) }

@@ -1,13 +1,15 @@
 -- The settings' fault is the first that says so.
-use Rattle.std.proofs.Common.{◌≡◌, ℕ, suc, zero, ◌<◌, ◌==◌, Bool, true, false, List, [], ◌∷◌, length, Option, Some, None, refl, sym, ◌∙◌, ap, ◌⊎◌, inl, inr, arith}
-use Rattle.std.specs.Prelude.{◌≢◌, ◌↔◌, Result, Ok, Err, IfErr, slice_index, is_some, is_none}
+use Rattle.std.proofs.Common.{◌≡◌, ℕ, suc, zero, ◌<◌, ◌≤◌, ◌==◌, ◌&&◌, ◌||◌, Bool, true, false, List, [], ◌∷◌, length, Option, Some, None, refl, sym, ◌∙◌, ap, ◌⊎◌, inl, inr, arith}
+use Rattle.std.specs.Prelude.{◌≢◌, ◌↔◌, Result, Ok, Err, IfErr, IfSome, nat_le, nat_lt, slice_index, is_some, is_none}
 use Rattle.std.specs.List.{Any, list_any}
-use Rattle.std.specs.Option.{option_and_then}
+use Rattle.std.specs.Option.{option_and_then, option_map}
 use Rattle.std.specs.Result.{IsErrOf}
-use Rattle.std.proofs.lemmas.Bool.{or_cases, or_left, or_right, and_parts, and_from, leb-true, ltb-true, le-leb, lt-ltb, eqb-true, eq-eqb, false≢true, true≢false}
+use Rattle.std.proofs.lemmas.Bool.{or_cases, or_left, or_right, and_parts, and_from, leb-true, ltb-true, ltb-false, le-leb, lt-ltb, eqb-true, eq-eqb, false≢true, true≢false}
 use Rattle.std.proofs.lemmas.List.Folds.{Any-from_list_any, list_any-from_Any}
 use Rattle.std.proofs.lemmas.Option.{none-some, same_Some}
-use Rattle.vrx_core.specs.machine.SettingsFault.{types_of, ssrcs_of, IsBadType, HasEqual, Says, IsFault, is_bad_type, holds, has_equal, lacks_red, is_bad_interval, is_later, first_of, fault_of}
+use Rattle.vrx_core.specs.machine.SettingsFault.{values_in, types_of, ssrcs_of, IsBadType, HasEqual, Says, IsFault, is_bad_type, holds, has_equal, lacks_red, is_bad_interval, is_later, first_of, fault_of}
+use Rattle.vrx_core.specs.inside.Seen.{HasTypes}
+use Rattle.vrx_core.specs.declared.settings.Red.{Red}
 use Rattle.vrx_core.specs.declared.settings.Settings.{Settings}
 use Rattle.vrx_core.specs.declared.settings.NewFault.{NewFault}
 use Rattle.vrx_core.specs.declared.settings.NewFault.TheVariants.{BadType, SameType, SameSsrc, RedMissing, BadInterval, Later, NoMemory}
@@ -101,10 +103,6 @@ bad_interval-to interval h =
 bad_interval-from : (interval : ℕ) → (interval ≡ 0) ⊎ (60000 < interval) → is_bad_interval interval ≡ true
 bad_interval-from interval (inl none) = or_left _ _ (eq-eqb interval 0 none)
 bad_interval-from interval (inr above) = or_right _ _ (lt-ltb 60000 interval above)
-
-later-from : (settings : Settings) → Says settings Later → is_later settings ≡ true
-later-from settings (inl red) = or_left _ _ red
-later-from settings (inr rtx) = or_right _ _ rtx
 
 -- another fault comes if the first test says nothing, and one after it does
 peel : {P X : Type 0} (test : Bool) (fault other : NewFault) (others : Option NewFault) → fault ≢ other →
@@ -230,7 +228,7 @@ module _ (settings : Settings) where
       (peel (lacks_red settings) RedMissing Later from_4 (λ e. cc) (red_missing settings)
       (peel (is_bad_interval settings.interval) BadInterval Later from_5 (λ e. cc)
       (bad_interval-to settings.interval, bad_interval-from settings.interval)
-      (hit (is_later settings) Later None (λ e. none-some Later e) (or_cases _ _, later-from settings))))))
+      (hit (is_later settings) Later None (λ e. none-some Later e) (λ h. h, λ h. h))))))
 
   pub fault-later : (fault_of settings ≡ Some Later) ↔ IsFault settings Later
   fault-later = (
@@ -281,3 +279,44 @@ never-memory settings is = none-some NoMemory (
 pub never-fault : {T : Type 0} (settings : Settings) (fault : NewFault) → fault_of settings ≡ Some fault →
     IsErrOf {T = T} (Err fault) NoMemory → ⊥
 never-fault settings fault is told = never-memory settings (is ∙ ap Some (same_Err fault NoMemory told))
+
+-- ---- what settings without a fault have
+
+-- if no test finds a fault, the first doesn't
+first-none : (test : Bool) (fault : NewFault) (others : Option NewFault) → first_of test fault others ≡ None →
+    test ≡ false
+first-none true fault others e = absurd (none-some fault (sym e))
+first-none false fault others e = refl
+
+neither : (a b : Bool) → (a || b) ≡ false → (a ≡ false) × (b ≡ false)
+neither true b h = absurd (true≢false h)
+neither false b h = (refl, h)
+
+-- a type that isn't a bad one has seven bits
+good-small : (type : ℕ) → is_bad_type type ≡ false → type < 128
+good-small type h =
+    let most : type ≤ 127 =
+    ltb-false 127 type (neither (nat_le 64 type && nat_le type 95) (nat_lt 127 type) h).1 in omega arith
+
+red-small : (red : Option Red) (others : List (Option ℕ)) →
+    list_any is_bad_type (values_in (option_map (λ r. r.red_type) red ∷ others)) ≡ false →
+    IfSome red (λ r. r.red_type < 128)
+red-small None others h = tt
+red-small (Some red) others h = good-small red.red_type
+    (neither (is_bad_type red.red_type) (list_any is_bad_type (values_in others)) h).0
+
+pub types-good : (settings : Settings) → fault_of settings ≡ None → HasTypes settings
+types-good settings none =
+    let others : List (Option ℕ) = option_and_then (λ red. red.fec_type) settings.red
+    ∷ option_map (λ rtx. rtx.media_rtx_type) settings.rtx ∷ option_and_then (λ rtx. rtx.red_rtx_type) settings.rtx
+    ∷ [] in
+    let each : (is_bad_type settings.media_type ≡ false)
+    × (list_any is_bad_type (values_in (option_map (λ red. red.red_type) settings.red ∷ others)) ≡ false) =
+    neither (is_bad_type settings.media_type)
+    (list_any is_bad_type (values_in (option_map (λ red. red.red_type) settings.red ∷ others)))
+    (first-none (list_any is_bad_type (types_of settings)) BadType
+    (first_of (has_equal (types_of settings)) SameType
+    (first_of (has_equal (ssrcs_of settings)) SameSsrc
+    (first_of (lacks_red settings) RedMissing
+    (first_of (is_bad_interval settings.interval) BadInterval (first_of (is_later settings) Later None))))) none) in
+    record { media = good-small settings.media_type each.0; red = red-small settings.red others each.1 }

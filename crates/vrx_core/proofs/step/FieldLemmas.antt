@@ -18,6 +18,7 @@ use Rattle.vrx_frames.specs.IsRun.{RunsApart, RunsAre, RunsRise}
 use Rattle.vrx_core.specs.machine.Machine.{snapshots}
 use Rattle.vrx_core.specs.relation.Frames.{Standing, is_passed, next_of, nothing as no_frames, runs_from}
 use Rattle.vrx_core.specs.relation.StandsFor.{Assembly, IsAssembled}
+use Rattle.vrx_core.specs.inside.Seen.{HasTypes}
 use Rattle.vrx_core.specs.inside.Step.{IsKept, lowest_of}
 use Rattle.vrx_core.specs.inside.Wants.{given_up_all}
 use Rattle.vrx_core.specs.inside.Fields.{AreFields, IsWhole, after_pulled, assembly_of}
@@ -48,10 +49,11 @@ whole-empty window is = subst (λ (w : Contents Held). IsWindow w) (sym is) (rec
 
 -- a new engine's fields
 pub fields-new : (codec : Meaning) (settings : Settings) (window : Contents Held) (known : Known) (frames : Standing)
-    (extender : Option ℕ) → window ≡ nothing → known ≡ nothing_known → frames ≡ no_frames → extender ≡ None
+    (extender : Option ℕ) → HasTypes settings → window ≡ nothing → known ≡ nothing_known → frames ≡ no_frames → extender ≡ None
     → AreFields codec extender frames.from
     (assembly_of settings (record { events = 0; clock = 0 }) window known frames None None)
-fields-new codec settings window known frames extender window_is known_is frames_is extender_is = record {
+fields-new codec settings window known frames extender types window_is known_is frames_is extender_is = record {
+  types = types;
   whole = record {
     kept = kept-new codec (assembly_of settings (record { events = 0; clock = 0 }) window known frames None None) refl
         window_is known_is (ap (λ (f : Standing). f.runs) frames_is) refl refl;
@@ -106,6 +108,7 @@ fields-pulled are rise apart codec settings count count' window known frames fra
     let low : lowest_of window.newest ≤ frames.from = fields.low in
     let high : frames.from ≤ max (lowest_of window.newest) (after_pulled last_pulled) = fields.high in
     record {
+      types = fields.types;
       whole = record {
         kept = kept-pulled are rise apart codec before after run whole.kept whole.window.packets_rise
             whole.window.packets_inside due
@@ -154,6 +157,7 @@ fields-given-up codec settings count window window' known frames last_pulled fro
     subst (λ (w : Contents Held).
     AreFields codec extender frames.from (assembly_of settings count w known frames last_pulled front)) (sym same)
     (record {
+      types = fields.types;
       whole = record {
         kept = kept-dead codec (assembly_of settings count window known frames last_pulled front)
             (given_up_all ns window).dead fields.whole.kept;

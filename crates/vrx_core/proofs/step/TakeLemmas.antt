@@ -167,6 +167,7 @@ module _ (are : RunsAre) (rise : RunsRise) (codec : Meaning) (settings : Setting
           → AreFields codec extender' frames'.from
           (assembly_of settings count' window' known' frames' last_pulled front')
       fields-taken extender' room counts sound extends = record {
+        types = fields.types;
         whole = record {
           kept = kept-taken are rise codec (assembly_of settings count window known frames last_pulled front)
               (assembly_of settings count' window' known' frames' last_pulled front') n held fields.whole.kept

@@ -18,6 +18,7 @@ use Rattle.vrx_core.specs.machine.Standing.{no_layers}
 use Rattle.vrx_core.specs.machine.Verdict.{verdict}
 use Rattle.vrx_core.specs.relation.Frames.{Standing, next_of, stands, with_run}
 use Rattle.vrx_core.specs.relation.StandsFor.{Assembly, Wanted}
+use Rattle.vrx_core.specs.inside.Seen.{HasTypes}
 use Rattle.vrx_core.specs.inside.Step.{IsKept, IsPulledAs, IsTakenAs, after_counting, lowest_of, packets_of}
 use Rattle.vrx_core.specs.relation.Order.{greatest_of}
 use Rattle.vrx_core.specs.inside.Wants.{AreFresh, lost_from}
@@ -52,9 +53,10 @@ abbrev pub after_pulled : Option ℕ → ℕ
 after_pulled None = 0
 after_pulled (Some last) = last + 1
 
--- What always holds of the fields. The extender has the window's newest number. The buffer takes runs from the
+-- What always holds of the fields. The payload types have seven bits. The extender has the window's newest number. The buffer takes runs from the
 -- window's lowest number on, or from one beyond it, which is at most the number after the last number pulled.
 pub record AreFields (codec : Meaning) (extender : Option ℕ) (from : ℕ) (parts : Assembly) : Type 0 where
+  pub types : HasTypes parts.settings
   pub whole : IsWhole codec parts
   pub newest : extender ≡ parts.window.newest
   pub low : lowest_of parts.window.newest ≤ from

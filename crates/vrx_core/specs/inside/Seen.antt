@@ -1,17 +1,20 @@
 -- What the types that see a packet where it lies stand for.
-use Rattle.std.specs.Prelude.{◌≡◌, ◌≢◌, ◌≤◌, ℕ, true, List, [], length, None, Ok}
+use Rattle.std.specs.Prelude.{◌≡◌, ◌≢◌, ◌<◌, ◌≤◌, ℕ, true, IfSome, List, [], length, None, Result, Ok}
 use Rattle.vrx_num.specs.declared.limits.TheConstants.{MOST_OCTETS}
 use Rattle.vrx_num.specs.Octets.{AreOctets}
-use Rattle.vrx_rtp.specs.Packet.{Fits}
+use Rattle.vrx_num.specs.ResultChain.{◌>>=◌}
+use Rattle.vrx_rtp.specs.Packet.{Packet, Fits}
 use Rattle.vrx_rtp.specs.View.{view}
 use Rattle.vrx_codec.specs.View.{view as view_part}
 use Rattle.vrx_codec.specs.Meaning.{Meaning}
 use Rattle.vrx_window.specs.Content.{Content, Media, Empty}
 use Rattle.vrx_core.specs.machine.Text.{packet_text}
-use Rattle.vrx_core.specs.machine.Original.{Original}
+use Rattle.vrx_core.specs.machine.Original.{Original, media_packet, out_of_red}
 use Rattle.vrx_core.specs.declared.original.PacketSeen.{PacketSeen}
 use Rattle.vrx_core.specs.declared.original.PayloadSeen.{PayloadSeen}
 use Rattle.vrx_core.specs.declared.original.PayloadSeen.TheVariants as brings
+use Rattle.vrx_core.specs.declared.reply.Reason.{Reason}
+use Rattle.vrx_core.specs.declared.settings.Settings.{Settings}
 use Rattle.vrx_core.specs.declared.verdict.TakenPacket.{TakenPacket}
 
 -- what a packet with this text brings
@@ -29,6 +32,15 @@ abbrev pub Says : Meaning → List ℕ → PayloadSeen → Type 0
 Says codec payload (brings.Media part) = (payload ≢ []) × (codec.read payload ≡ Ok (view_part part))
     × (part.layers ≡ None) × (length part.body.now ≤ length payload)
 Says codec payload brings.Empty = payload ≡ []
+
+-- the media packet that a packet brings, out of a retransmission and out of RED
+abbrev pub packet_brought : Settings → Packet → Result Packet Reason
+packet_brought settings packet = media_packet settings packet >>= λ sent. out_of_red settings sent
+
+-- the payload types of media and RED have seven bits
+pub record HasTypes (settings : Settings) : Type 0 where
+  pub media : settings.media_type < 128
+  pub red : IfSome settings.red (λ red. red.red_type < 128)
 
 -- what octets were seen to bring: a packet whose text fits, isn't longer than they may be, and is the octets themselves
 -- if the packet came bare; and its payload says what was seen in it

@@ -1,10 +1,11 @@
+use Rattle.vrx_core.proofs.machine.SettingsLemmas.{types-good}
 use Rattle.vrx_core.proofs.step.FieldLemmas.{fields-new, stands-new}
 use Rattle.vrx_core.proofs.assembler.Assembler.new.Goals as goal
 
 pub invariant_of-result : goal.invariant_of-result
 invariant_of-result g c =
     fields-new g.C.Codec.meaning c.args.settings c.in-Ok.window c.in-Ok-new.runs c.in-Ok-new-2.frames c.new-4.result
-    c.in-Ok.ensures.nothing c.in-Ok-new.ensures.nothing c.in-Ok-new-2.ensures.nothing c.new-4.ensures
+    (types-good c.args.settings c.requires.good) c.in-Ok.ensures.nothing c.in-Ok-new.ensures.nothing c.in-Ok-new-2.ensures.nothing c.new-4.ensures
 
 pub returns-clause-stands : goal.returns-clause-stands
 returns-clause-stands g c =
