@@ -60,7 +60,7 @@ fn reply_of<C: Codec>(
     }
 }
 
-/// Why no engine stands for settings with a fault: RED and retransmissions are right, and a replay takes neither.
+/// Why no engine stands for settings with a fault: FEC is right, and a replay doesn't take it.
 fn hindrance_of(fault: NewFault) -> Unanswered
     ensures reason { result ≡ hindrance_of fault }
 {

@@ -142,6 +142,10 @@ fn settings_are_tested_in_order(rt: HostRuntime) {
         };
         assert_eq!(rt; fault_of(rt.alloc(), settings), Some(want), "{settings:?}");
     }
+    let media_red = Some(Red {
+        red_type: 97,
+        fec_type: None,
+    });
     let media_rtx = Some(Rtx {
         ssrc: 12,
         media_rtx_type: 99,
@@ -153,7 +157,8 @@ fn settings_are_tested_in_order(rt: HostRuntime) {
         (None, rtx(12, 99, 100), 10, 0, Some(SameSsrc)),
         (None, rtx(12, 99, 100), 11, 0, Some(RedMissing)),
         (None, media_rtx, 11, 0, Some(BadInterval)),
-        (None, media_rtx, 11, 1, Some(Later)),
+        (None, media_rtx, 11, 1, None),
+        (media_red, rtx(12, 99, 100), 11, 1, None),
         (red(97, 98), None, 11, 1, Some(Later)),
         (red(97, 98), media_rtx, 11, 60_001, Some(BadInterval)),
         (None, None, 11, 0, Some(BadInterval)),
