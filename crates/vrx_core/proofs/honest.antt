@@ -20,4 +20,5 @@ pub mod LossLemmas
 pub mod HonestLemmas
 pub mod HonestRunsLemmas
 pub mod NeighbourRows
+pub mod FormRows
 pub mod LossRows
