@@ -4,6 +4,9 @@ pub mod PartLemmas
 pub mod KeptLemmas
 pub mod KeepsLemmas
 pub mod BroughtLemmas
+pub mod SettingsTypesLemmas
+pub mod IntoRedLemmas
+pub mod FormLemmas
 pub mod WireLemmas
 pub mod TookLemmas
 pub mod LostLemmas
@@ -17,4 +20,5 @@ pub mod LossLemmas
 pub mod HonestLemmas
 pub mod HonestRunsLemmas
 pub mod NeighbourRows
+pub mod FormRows
 pub mod LossRows

@@ -7,16 +7,18 @@ ghost use Rattle.vrx_core.specs.honest.HonestTaken.{HonestTakenHolds};
 use vrx_frames::runs_are;
 use vrx_num::extended_is_near;
 use vrx_rtp::one_reading;
+use vrx_wrap::one_original;
 
 /// The honest call. An honest sender sends keyframes and delta frames of any number of packets each, and packets
-/// without a payload between them. An honest network brings what was sent, with padding or without, with loss, repeats
-/// and in any order, each packet at most 32,768 places away from the greatest one taken, and beside it only octets that
-/// are RTCP or are refused whatever came before. Then the frames pulled are frames that were sent, byte for byte, in
-/// the order in which they were sent, each at most once, from a keyframe on, and each after its chain and its
-/// references. Each pull is answered by the least frame that is ready, and by `NotReady` exactly if none is. Each
-/// packet that an event gives up brings a request for a keyframe in the reply to that event, unless a keyframe that
-/// begins beyond the packet stands or was pulled, or an earlier request is outstanding and no keyframe completes with
-/// the event. It holds for all settings without a fault and every codec's meaning.
+/// without a payload between them. An honest network brings what was sent, each packet plain, in RED, sent again, or
+/// in RED and sent again, with padding or without, with loss, repeats and in any order, each packet at most 32,768
+/// places away from the greatest one taken, and beside it only octets that are RTCP or are refused whatever came
+/// before. Then the frames pulled are frames that were sent, byte for byte, in the order in which they were sent,
+/// each at most once, from a keyframe on, and each after its chain and its references. Each pull is answered by the
+/// least frame that is ready, and by `NotReady` exactly if none is. Each packet that an event gives up brings a
+/// request for a keyframe in the reply to that event, unless a keyframe that begins beyond the packet stands or was
+/// pulled, or an earlier request is outstanding and no keyframe completes with the event. It holds for all settings
+/// without a fault and every codec's meaning.
 pub fn honest_call()
     ensures honest { HonestCallHolds }
 {
@@ -24,6 +26,7 @@ pub fn honest_call()
     runs_are();
     extended_is_near();
     one_reading();
+    one_original();
 }
 
 /// What a receiver takes and keeps in an honest call, said in the sender's terms. A datagram of the sender is taken
@@ -38,6 +41,7 @@ pub fn honest_taken()
     // Each call cites the laws that the proof needs, and runs nothing.
     extended_is_near();
     one_reading();
+    one_original();
 }
 
 /// The runs of an honest call, after each of its events. Each run that stands is a frame that was sent: it has the
@@ -50,4 +54,5 @@ pub fn honest_runs()
     runs_are();
     extended_is_near();
     one_reading();
+    one_original();
 }

@@ -1,11 +1,15 @@
 -- An honest sender and an honest network, worked by hand: the premises of the law can be met.
 use Rattle.std.proofs.Common.{◌≢◌, ◌≤◌, ◌<◌, ◌≡◌, ◌∙◌, ap, inl, inr, Contains, All, slice_index_or, ℕ, zero, suc, ◌+◌, true, false, List, [], ◌∷◌, length, None, Some, ◌⊎◌, IfSome, slice_get, refl, arith}
-use Rattle.std.specs.Prelude.{nat_lt}
+use Rattle.std.specs.Prelude.{nat_lt, nat_le}
 use Rattle.std.specs.List.{AllByRecursion, list_all}
-use Rattle.std.proofs.lemmas.Bool.{and_parts, ltb-true}
+use Rattle.std.proofs.lemmas.Bool.{and_parts, leb-true, ltb-true}
 use Rattle.std.proofs.lemmas.List.Elements.{All-nil, All-from_recursion}
 use Rattle.vrx_num.specs.Octets.{AreOctets}
-use Rattle.vrx_core.specs.honest.WireForm.{IsPadded, IsEmptyPacket}
+use Rattle.vrx_num.specs.declared.limits.TheConstants.{MOST_OCTETS}
+use Rattle.vrx_rtp.specs.Packet.{Packet}
+use Rattle.vrx_rtp.specs.Reading.{read}
+use Rattle.vrx_core.specs.machine.Text.{without_padding}
+use Rattle.vrx_core.specs.honest.WireForm.{Plain, Carries, IsWireForm}
 use Rattle.vrx_vp8.specs.Descriptor.{vp8}
 use Rattle.vrx_core.specs.machine.Machine.{Reply, ToDatagram, ToTick, ToPull, replies, reply, snapshots}
 use Rattle.vrx_core.specs.honest.Sender.{SentFrame, Media, Empty, Sender}
@@ -282,57 +286,73 @@ sender-honest = record {
   last zero = tt
   last (suc f) = tt
 
+-- octets that read as a packet carry it
+carry : (octets : List ℕ) (packet : Packet) → nat_le (length octets) MOST_OCTETS ≡ true →
+    list_all (λ octet. nat_lt octet 256) octets ≡ true → read octets ≡ Some packet →
+    Carries octets (without_padding packet)
+carry octets packet short small reads = record {
+  size = leb-true (length octets) MOST_OCTETS short;
+  below = are_octets octets small;
+  packet = packet;
+  reads = reads;
+  unpadded = refl;
+}
+
+-- octets that carry a media packet are it, with padding or without
+media_form : (number frame part : ℕ) (carried : CarriedPart) (octets : List ℕ) →
+    read carried.text ≡ Some carried.packet → Carries octets carried.packet →
+    IsWireForm settings number (Media frame part carried.text) octets
+media_form number frame part carried octets reads carries = (
+  carried.packet,
+  reads,
+  record { how = Plain; wire = carried.packet; travels = refl; carries = carries },
+)
+
+first_plain : IsWireForm settings 65535 (Media 0 0 first_text) first_text
+first_plain = media_form 65535 0 0 first_part first_text refl (carry first_text first_part.packet refl refl refl)
+
+second_plain : IsWireForm settings 0 (Media 0 1 second_text) second_text
+second_plain = media_form 0 0 1 second_part second_text refl (carry second_text second_part.packet refl refl refl)
+
+third_plain : IsWireForm settings 2 (Media 1 0 third_text) third_text
+third_plain = media_form 2 1 0 third_part third_text refl (carry third_text third_part.packet refl refl refl)
+
 -- the third packet with padding of three octets
 abbrev third_padded : List ℕ
 third_padded = 160 ∷ 224 ∷ 0 ∷ 2 ∷ 0 ∷ 0 ∷ 0 ∷ 9 ∷ 0 ∷ 0 ∷ 0 ∷ 10 ∷ 16 ∷ 1 ∷ 204 ∷ 7 ∷ 7 ∷ 3 ∷ []
 
-third_is_padded : IsPadded third_text third_padded
-unfolding are_octets
-third_is_padded = record {
-  size = omega arith;
-  below = are_octets third_padded refl;
-  packet = record {
-    marker = true;
-    pt = 96;
-    seq = 2;
-    ts = 9;
-    ssrc = 10;
-    csrc = [];
-    extension = None;
-    payload =
-        16 ∷ 1 ∷ 204 ∷ [];
-    padding = 3;
-  };
-  reads = refl;
-  spelled = refl;
+third_with_padding : IsWireForm settings 2 (Media 1 0 third_text) third_padded
+third_with_padding = media_form 2 1 0 third_part third_padded refl
+    (carry third_padded (record third_part.packet { padding = 3 }) refl refl refl)
+
+-- the empty packet, and its octets with padding of four octets
+abbrev empty_packet : Packet
+empty_packet = record {
+  marker = false;
+  pt = 96;
+  seq = 1;
+  ts = 5;
+  ssrc = 10;
+  csrc = [];
+  extension = None;
+  payload = [];
+  padding = 0;
 }
 
--- the empty packet, with padding of four octets
 abbrev empty_padded : List ℕ
 empty_padded = 160 ∷ 96 ∷ 0 ∷ 1 ∷ 0 ∷ 0 ∷ 0 ∷ 5 ∷ 0 ∷ 0 ∷ 0 ∷ 10 ∷ 0 ∷ 0 ∷ 0 ∷ 4 ∷ []
 
-empty_is : IsEmptyPacket settings 1 empty_padded
-unfolding are_octets
-empty_is = record {
-  size = omega arith;
-  below = are_octets empty_padded refl;
-  packet = record {
-    marker = false;
-    pt = 96;
-    seq = 1;
-    ts = 5;
-    ssrc = 10;
-    csrc = [];
-    extension = None;
-    payload = [];
-    padding = 4;
-  };
-  reads = refl;
-  number = refl;
-  type = refl;
-  source = refl;
-  payload = refl;
-}
+empty_with_padding : IsWireForm settings 1 Empty empty_padded
+empty_with_padding = (
+  empty_packet,
+  record { number_is = refl; type = refl; source = refl; payload = refl },
+  inl (record {
+    how = Plain;
+    wire = empty_packet;
+    travels = refl;
+    carries = carry empty_padded (record empty_packet { padding = 4 }) refl refl refl;
+  }),
+)
 
 -- the last packet of the first frame, octets that are no packet, a pull, a tick, the first packet, a repeat, a pull, the
 -- last frame's packet with padding, the same without, a pull, the empty packet, and a pull
@@ -349,9 +369,9 @@ origins =
 
 -- the network is honest
 pub network-honest : HonestNetwork settings vp8 sender [] [] events origins
-unfolding snapshots packets_taken empty_is third_is_padded
+unfolding snapshots packets_taken
 network-honest = (
-  (inl refl, tt),
+  (second_plain, tt),
   (
     refl,
     (
@@ -359,14 +379,17 @@ network-honest = (
       (
         tt,
         (
-          (inl refl, (omega arith, omega arith)),
+          (first_plain, (omega arith, omega arith)),
           (
-            (inl refl, (omega arith, omega arith)),
+            (second_plain, (omega arith, omega arith)),
             (
               tt,
               (
-                (inr third_is_padded, (omega arith, omega arith)),
-                ((inl refl, (omega arith, omega arith)), (tt, ((empty_is, (omega arith, omega arith)), (tt, tt)))),
+                (third_with_padding, (omega arith, omega arith)),
+                (
+                  (third_plain, (omega arith, omega arith)),
+                  (tt, ((empty_with_padding, (omega arith, omega arith)), (tt, tt))),
+                ),
               ),
             ),
           ),

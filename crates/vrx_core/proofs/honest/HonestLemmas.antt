@@ -22,7 +22,7 @@ use Rattle.vrx_core.specs.declared.reply.Pulled.TheVariants as pulls
 use Rattle.vrx_core.proofs.machine.AnswerLemmas.{answer-given}
 use Rattle.vrx_core.proofs.machine.StandingLemmas.{given-rises, standing_is}
 use Rattle.vrx_core.proofs.honest.BroughtLemmas.{verdict_aside}
-use Rattle.vrx_core.proofs.machine.TextLemmas.{ReadsPacket}
+use Rattle.vrx_core.proofs.honest.WireLemmas.{FormLaws}
 use Rattle.vrx_core.proofs.honest.TookLemmas.{Took}
 use Rattle.vrx_core.proofs.honest.HonestTakenLemmas.{took_step, first_took}
 use Rattle.vrx_core.proofs.honest.LossLemmas.{losses-asked}
@@ -57,7 +57,7 @@ Gives sender bound fs after (Some f) (ToPull (pulls.Frame frame)) =
     × IfSome (slice_get sender.frames f) (λ sent. All (λ g. Contains fs g) sent.references)
 Gives sender bound fs after _ _ = ⊥
 
-module _ (meant : GivesMeant) (law : ReadsPacket) (are : RunsAre) (settings : Settings) (codec : Meaning)
+module _ (meant : GivesMeant) (laws : FormLaws) (are : RunsAre) (settings : Settings) (codec : Meaning)
     (sender : Sender) (good : fault_of settings ≡ None) (honest : HonestSender settings codec sender) where
   -- what held after a history
   abbrev HoldsAt : List Event → List Origin → List ℕ → Type 0
@@ -95,7 +95,7 @@ module _ (meant : GivesMeant) (law : ReadsPacket) (are : RunsAre) (settings : Se
     took_now : HoldsAt h origins fs → (e : Event) (o : Origin) → IsDelivery settings codec sender h origins e o →
         Took sender (snapshots settings codec (e ∷ h)) (packets_taken settings codec (e ∷ h) (o ∷ origins))
     took_now holds e o delivery =
-        took_step settings codec sender h origins meant law good honest holds.took e o delivery
+        took_step settings codec sender h origins meant laws good honest holds.took e o delivery
 
     -- a datagram of the sender
     sent_step : (moment : ℕ) (octets : List ℕ) (i : ℕ) → HoldsAt h origins fs →
@@ -316,6 +316,6 @@ module _ (meant : GivesMeant) (law : ReadsPacket) (are : RunsAre) (settings : Se
       }
 
 -- every honest call is answered rightly
-pub honest_call : GivesMeant → ReadsPacket → RunsAre → HonestCallHolds
-honest_call meant law are settings codec sender events origins good honest network =
-    honest-call meant law are settings codec sender good honest events origins network
+pub honest_call : GivesMeant → FormLaws → RunsAre → HonestCallHolds
+honest_call meant laws are settings codec sender events origins good honest network =
+    honest-call meant laws are settings codec sender good honest events origins network

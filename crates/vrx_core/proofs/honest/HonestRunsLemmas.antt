@@ -11,12 +11,12 @@ use Rattle.vrx_core.specs.honest.HonestNetwork.{Origin, HonestNetwork, packets_t
 use Rattle.vrx_core.specs.honest.HonestRuns.{RunsRightly, RunsRightlyFrom, HonestRunsHolds}
 use Rattle.vrx_core.specs.declared.settings.Settings.{Settings}
 use Rattle.vrx_core.specs.declared.event.Event.{Event}
+use Rattle.vrx_core.proofs.honest.WireLemmas.{FormLaws}
 use Rattle.vrx_core.proofs.honest.HoldsLemmas.{Holds}
 use Rattle.vrx_core.proofs.honest.HonestLemmas.{Step, step, first_holds}
-use Rattle.vrx_core.proofs.machine.TextLemmas.{ReadsPacket}
 use Rattle.vrx_core.proofs.honest.ReadyLemmas.{IsRunOf, frame_is, complete_run}
 
-module _ (meant : GivesMeant) (law : ReadsPacket) (are : RunsAre) (settings : Settings) (codec : Meaning)
+module _ (meant : GivesMeant) (laws : FormLaws) (are : RunsAre) (settings : Settings) (codec : Meaning)
     (sender : Sender) (good : fault_of settings ≡ None) (honest : HonestSender settings codec sender) where
   -- the runs after a history
   runs_rightly : (h : List Event) (origins : List Origin) (fs : List ℕ) →
@@ -39,12 +39,12 @@ module _ (meant : GivesMeant) (law : ReadsPacket) (are : RunsAre) (settings : Se
   runs_from [] h origins (o ∷ os) fs holds network = absurd network
   runs_from (e ∷ es) h origins [] fs holds network = absurd network
   runs_from (e ∷ es) h origins (o ∷ os) fs holds network =
-      let s : Step meant law are settings codec sender good honest h origins fs e o =
-      step meant law are settings codec sender good honest h origins fs holds e o network.0 in
+      let s : Step meant laws are settings codec sender good honest h origins fs e o =
+      step meant laws are settings codec sender good honest h origins fs holds e o network.0 in
       (runs_rightly h origins fs holds, runs_from es (e ∷ h) (o ∷ origins) os s.after s.holds network.1)
 
 -- in every honest call the runs are the sender's frames
-pub honest_runs : GivesMeant → ReadsPacket → RunsAre → HonestRunsHolds
-honest_runs meant law are settings codec sender events origins good honest network =
-    runs_from meant law are settings codec sender good honest events [] [] origins []
-    (first_holds meant law are settings codec sender good honest) network
+pub honest_runs : GivesMeant → FormLaws → RunsAre → HonestRunsHolds
+honest_runs meant laws are settings codec sender events origins good honest network =
+    runs_from meant laws are settings codec sender good honest events [] [] origins []
+    (first_holds meant laws are settings codec sender good honest) network

@@ -24,7 +24,6 @@ use Rattle.vrx_core.specs.declared.event.Event.TheVariants.{Datagram, Tick, Pull
 use Rattle.vrx_core.specs.declared.original.NotTaken.{NotTaken}
 use Rattle.vrx_core.proofs.machine.MemberLemmas.{Contains-empty}
 use Rattle.vrx_core.proofs.machine.PacketLemmas.{open-newest}
-use Rattle.vrx_core.proofs.machine.TextLemmas.{ReadsPacket}
 use Rattle.vrx_core.proofs.machine.VerdictLemmas.{IsFresh, fresh-is, fresh-from}
 use Rattle.vrx_core.proofs.honest.LostLemmas.{Matches, matches}
 use Rattle.vrx_core.proofs.honest.BroughtLemmas.{verdict_taken, verdict_take}
@@ -32,7 +31,7 @@ use Rattle.vrx_core.proofs.honest.NumberLemmas.{IsNewestOf, taken-number, wire_b
 use Rattle.vrx_core.proofs.honest.PartLemmas.{some_from}
 use Rattle.vrx_core.proofs.honest.KeptLemmas.{AreKept, kept-there}
 use Rattle.vrx_core.proofs.honest.KeepsLemmas.{Keeps, greatest-upto, near-number, number-near, one-number, one-place}
-use Rattle.vrx_core.proofs.honest.WireLemmas.{Brings, brings}
+use Rattle.vrx_core.proofs.honest.WireLemmas.{FormLaws, Brings, brings}
 use Rattle.vrx_core.proofs.honest.TookLemmas.{TookNow, Took, opening-took, brought-took, aside-took, tick-took, pull-took}
 
 -- a list of which nothing is available
@@ -228,7 +227,7 @@ module _ (settings : Settings) (codec : Meaning) (sender : Sender) (h : List Eve
     not_lost = λ n is. false_from_ne_true (is_lost (snapshots settings codec h) n) (λ l. to.not_given_up (n, is, l));
   }
 
-  module _ (meant : GivesMeant) (law : ReadsPacket) (good : fault_of settings ≡ None)
+  module _ (meant : GivesMeant) (laws : FormLaws) (good : fault_of settings ≡ None)
       (honest : HonestSender settings codec sender)
       (t : Took sender (snapshots settings codec h) (packets_taken settings codec h origins)) where
     -- what was taken after one event more
@@ -238,7 +237,7 @@ module _ (settings : Settings) (codec : Meaning) (sender : Sender) (h : List Eve
     took_step (Datagram moment octets) (FromSender i) delivery =
         brought-took sender meant settings codec (snapshots settings codec h)
         (packets_taken settings codec h origins) t moment i octets
-        (brings law settings codec good sender honest i octets delivery.0) delivery.1
+        (brings laws settings codec good sender honest i octets delivery.0) delivery.1
     took_step (Datagram moment octets) Elsewhere delivery =
         aside-took sender meant settings codec (snapshots settings codec h)
         (packets_taken settings codec h origins) t moment octets delivery
@@ -260,7 +259,7 @@ module _ (settings : Settings) (codec : Meaning) (sender : Sender) (h : List Eve
         let window : Contents Content = (latest (snapshots settings codec h)).window in
         let js : List ℕ = packets_taken settings codec h origins in
         let b : Brings settings codec sender i octets =
-        brings law settings codec good sender honest i octets delivery.0 in
+        brings laws settings codec good sender honest i octets delivery.0 in
         let lost : ℕ → Bool = is_lost (snapshots settings codec h) in
         let match : Matches window lost = matches settings codec h in
         let exact : (is_ok (verdict settings codec window octets) ≡ true) ↔ ToTake sender lost i js =
@@ -294,7 +293,7 @@ pub first_took : (settings : Settings) (codec : Meaning) (sender : Sender) →
 unfolding snapshots packets_taken
 first_took settings codec sender = opening-took sender
 
-module _ (meant : GivesMeant) (law : ReadsPacket) (settings : Settings) (codec : Meaning) (sender : Sender)
+module _ (meant : GivesMeant) (laws : FormLaws) (settings : Settings) (codec : Meaning) (sender : Sender)
     (good : fault_of settings ≡ None) (honest : HonestSender settings codec sender) where
   -- the rest of an honest call takes and keeps rightly
   takes_from : (events : List Event) (h : List Event) (origins later : List Origin) →
@@ -306,13 +305,13 @@ module _ (meant : GivesMeant) (law : ReadsPacket) (settings : Settings) (codec :
   takes_from (e ∷ es) h origins [] t network = absurd network
   takes_from (e ∷ es) h origins (o ∷ os) t network = (
     kept_rightly settings codec sender h origins t.here,
-    rightly_step settings codec sender h origins meant law good honest t e o network.0,
+    rightly_step settings codec sender h origins meant laws good honest t e o network.0,
     takes_from es (e ∷ h) (o ∷ origins) os
-        (took_step settings codec sender h origins meant law good honest t e o network.0) network.1,
+        (took_step settings codec sender h origins meant laws good honest t e o network.0) network.1,
   )
 
 -- every honest call takes and keeps rightly
-pub honest_taken : GivesMeant → ReadsPacket → HonestTakenHolds
-honest_taken meant law settings codec sender events origins good honest network =
-    takes_from meant law settings codec sender good honest events [] [] origins
+pub honest_taken : GivesMeant → FormLaws → HonestTakenHolds
+honest_taken meant laws settings codec sender events origins good honest network =
+    takes_from meant laws settings codec sender good honest events [] [] origins
     (first_took settings codec sender) network

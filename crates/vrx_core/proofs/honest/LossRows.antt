@@ -1,6 +1,6 @@
 -- An honest call in which a packet is lost, worked by hand: it is asked for ten times and given up, which brings a
 -- request for a keyframe; and it is dropped when it comes after all.
-use Rattle.std.proofs.Common.{◌≡◌, ℕ, List, [], ◌∷◌, Some, None, inl, refl, arith}
+use Rattle.std.proofs.Common.{◌≡◌, ℕ, List, [], ◌∷◌, Some, None, refl, arith}
 use Rattle.vrx_rtcp.specs.declared.feedback.Feedback.{Feedback}
 use Rattle.vrx_core.specs.machine.Machine.{Reply, ToDatagram, ToTick, replies, reply, snapshots}
 use Rattle.vrx_core.specs.honest.HonestNetwork.{Origin, FromSender, Elsewhere, HonestNetwork, packets_taken}
@@ -10,7 +10,7 @@ use Rattle.vrx_core.specs.declared.event.Event.TheVariants.{Datagram, Tick}
 use Rattle.vrx_core.specs.declared.reply.What.{What}
 use Rattle.vrx_core.specs.declared.reply.What.TheVariants as what
 use Rattle.vrx_core.specs.declared.reply.Reason.TheVariants.{Dead}
-use Rattle.vrx_core.proofs.honest.NeighbourRows.{codec, settings, sender, first_text, second_text, third_text}
+use Rattle.vrx_core.proofs.honest.NeighbourRows.{codec, settings, sender, first_text, second_text, third_text, first_plain, third_plain}
 
 -- packets 0 and 2 of the sender come, then ten ticks, each an interval after the one before
 abbrev events : List Event
@@ -34,8 +34,8 @@ origins_back = Elsewhere ∷ Elsewhere ∷ Elsewhere ∷ Elsewhere ∷ Elsewhere
 pub network-honest : HonestNetwork settings codec sender [] [] events origins
 unfolding snapshots packets_taken
 network-honest = (
-  (inl refl, tt),
-  ((inl refl, (omega arith, omega arith)), (tt, (tt, (tt, (tt, (tt, (tt, (tt, (tt, (tt, (tt, tt))))))))))),
+  (first_plain, tt),
+  ((third_plain, (omega arith, omega arith)), (tt, (tt, (tt, (tt, (tt, (tt, (tt, (tt, (tt, (tt, tt))))))))))),
 )
 
 -- a NACK of the number 2 alone (RFC 4585 6.2.1), and a PLI (RFC 4585 6.3.1), from 11 about 10

@@ -1,17 +1,22 @@
 -- An honest sender whose payloads never say where a frame begins, and who sends an empty packet between two frames,
 -- worked by hand: the premises of the laws can be met if the packet before decides.
 use Rattle.std.proofs.Common.{◌≢◌, ◌≤◌, ◌<◌, ◌≡◌, ◌∙◌, ◌⊎◌, ap, inl, inr, Contains, All, ℕ, zero, suc, ◌+◌, true, false, List, [], ◌∷◌, length, Some, None, IfSome, Ok, slice_get, refl, arith}
-use Rattle.std.specs.Prelude.{nat_lt, ◌==◌}
+use Rattle.std.specs.Prelude.{nat_lt, nat_le, ◌==◌}
 use Rattle.std.specs.List.{AllByRecursion, list_all, list_any, flat_map}
-use Rattle.std.proofs.lemmas.Bool.{and_parts, ltb-true}
+use Rattle.std.proofs.lemmas.Bool.{and_parts, leb-true, ltb-true}
 use Rattle.std.proofs.lemmas.List.Elements.{All-nil, All-from_recursion}
 use Rattle.vrx_num.specs.Octets.{AreOctets}
+use Rattle.vrx_num.specs.declared.limits.TheConstants.{MOST_OCTETS}
+use Rattle.vrx_rtp.specs.Packet.{Packet}
+use Rattle.vrx_rtp.specs.Reading.{read}
+use Rattle.vrx_wrap.specs.Red.{red_of}
 use Rattle.vrx_codec.specs.Meaning.{Meaning}
 use Rattle.vrx_codec.specs.declared.part.Start.TheVariants.{ByNeighbour}
 use Rattle.vrx_core.specs.machine.SettingsFault.{fault_of}
 use Rattle.vrx_core.specs.machine.Machine.{Reply, ToDatagram, ToPull, replies, reply, snapshots}
 use Rattle.vrx_core.specs.honest.Sender.{SentFrame, Media, Empty, Sender}
-use Rattle.vrx_core.specs.honest.WireForm.{IsEmptyPacket}
+use Rattle.vrx_core.specs.machine.Text.{without_padding}
+use Rattle.vrx_core.specs.honest.WireForm.{Plain, Carries, IsFormOf, IsWireForm}
 use Rattle.vrx_core.specs.honest.Chain.{InChain}
 use Rattle.vrx_core.specs.honest.HonestSender.{CarriedPart, IsPart, Travels, HonestSender}
 use Rattle.vrx_core.specs.honest.HonestNetwork.{Origin, FromSender, Elsewhere, HonestNetwork, packets_taken}
@@ -36,8 +41,16 @@ codec = record {
   join = λ parts. Ok (flat_map (λ part. part.body) parts);
 }
 
+-- media may come in RED, and media and RED may come again
 abbrev pub settings : Settings
-settings = record { media_ssrc = 10; media_type = 96; red = None; rtx = None; from_ssrc = 11; interval = 100 }
+settings = record {
+  media_ssrc = 10;
+  media_type = 96;
+  red = Some (record { red_type = 97; fec_type = None });
+  rtx = Some (record { ssrc = 12; media_rtx_type = 98; red_rtx_type = Some 99 });
+  from_ssrc = 11;
+  interval = 100;
+}
 
 -- they have no fault
 pub no_fault : fault_of settings ≡ None
@@ -57,7 +70,7 @@ third_text = 128 ∷ 224 ∷ 0 ∷ 3 ∷ 0 ∷ 0 ∷ 0 ∷ 9 ∷ 0 ∷ 0 ∷ 0 �
 abbrev empty_octets : List ℕ
 empty_octets = 160 ∷ 96 ∷ 0 ∷ 4 ∷ 0 ∷ 0 ∷ 0 ∷ 9 ∷ 0 ∷ 0 ∷ 0 ∷ 10 ∷ 1 ∷ []
 
-abbrev fourth_text : List ℕ
+abbrev pub fourth_text : List ℕ
 fourth_text = 128 ∷ 224 ∷ 0 ∷ 5 ∷ 0 ∷ 0 ∷ 0 ∷ 18 ∷ 0 ∷ 0 ∷ 0 ∷ 10 ∷ 221 ∷ []
 
 abbrev first_frame : SentFrame
@@ -77,7 +90,7 @@ sender = record {
 }
 
 -- what the packets carry
-abbrev first_part : CarriedPart
+abbrev pub first_part : CarriedPart
 first_part = record {
   text = first_text;
   packet = record {
@@ -94,7 +107,7 @@ first_part = record {
   part = record { start = ByNeighbour; key = true; layers = None; body = 5 ∷ 170 ∷ [] };
 }
 
-abbrev second_part : CarriedPart
+abbrev pub second_part : CarriedPart
 second_part = record {
   text = second_text;
   packet = record {
@@ -111,7 +124,7 @@ second_part = record {
   part = record { start = ByNeighbour; key = true; layers = None; body = 5 ∷ 187 ∷ [] };
 }
 
-abbrev third_part : CarriedPart
+abbrev pub third_part : CarriedPart
 third_part = record {
   text = third_text;
   packet = record {
@@ -128,7 +141,7 @@ third_part = record {
   part = record { start = ByNeighbour; key = false; layers = None; body = 204 ∷ [] };
 }
 
-abbrev fourth_part : CarriedPart
+abbrev pub fourth_part : CarriedPart
 fourth_part = record {
   text = fourth_text;
   packet = record {
@@ -152,6 +165,23 @@ are_octets octets h = All-from_recursion (λ octet. octet < 256) octets (each oc
   each [] h = tt
   each (o ∷ os) h = let both =
       and_parts (nat_lt o 256) (list_all (λ octet. nat_lt octet 256) os) h in (ltb-true o 256 both.0, each os both.1)
+
+-- octets that read as a packet carry it
+pub carry : (octets : List ℕ) (packet : Packet) → nat_le (length octets) MOST_OCTETS ≡ true →
+    list_all (λ octet. nat_lt octet 256) octets ≡ true → read octets ≡ Some packet →
+    Carries octets (without_padding packet)
+carry octets packet short small reads = record {
+  size = leb-true (length octets) MOST_OCTETS short;
+  below = are_octets octets small;
+  packet = packet;
+  reads = reads;
+  unpadded = refl;
+}
+
+-- so they are a packet that travels as it is
+pub plain_form : (octets : List ℕ) (packet : Packet) → Carries octets packet →
+    IsFormOf settings red_of packet octets
+plain_form octets packet carries = record { how = Plain; wire = packet; travels = refl; carries = carries }
 
 -- each packet is a part of its frame
 first_is : IsPart settings codec sender 0 first_frame 1 0 0 first_part
@@ -331,28 +361,56 @@ sender-honest = record {
   different (suc (suc zero)) = tt
   different (suc (suc (suc f))) = tt
 
--- the empty packet travels so
-empty_is : IsEmptyPacket settings 4 empty_octets
-empty_is = record {
-  size = omega arith;
-  below = are_octets empty_octets refl;
-  packet = record {
-    marker = false;
-    pt = 96;
-    seq = 4;
-    ts = 9;
-    ssrc = 10;
-    csrc = [];
-    extension = None;
-    payload = [];
-    padding = 1;
-  };
-  reads = refl;
-  number = refl;
-  type = refl;
-  source = refl;
-  payload = refl;
+-- the packets travel as they are
+pub first_plain : IsWireForm settings 1 (Media 0 0 first_text) first_text
+first_plain = (
+  first_part.packet,
+  refl,
+  plain_form first_text first_part.packet (carry first_text first_part.packet refl refl refl),
+)
+
+second_plain : IsWireForm settings 2 (Media 1 0 second_text) second_text
+second_plain = (
+  second_part.packet,
+  refl,
+  plain_form second_text second_part.packet (carry second_text second_part.packet refl refl refl),
+)
+
+pub third_plain : IsWireForm settings 3 (Media 1 1 third_text) third_text
+third_plain = (
+  third_part.packet,
+  refl,
+  plain_form third_text third_part.packet (carry third_text third_part.packet refl refl refl),
+)
+
+fourth_plain : IsWireForm settings 5 (Media 2 0 fourth_text) fourth_text
+fourth_plain = (
+  fourth_part.packet,
+  refl,
+  plain_form fourth_text fourth_part.packet (carry fourth_text fourth_part.packet refl refl refl),
+)
+
+-- the empty packet, without its padding
+abbrev pub empty_packet : Packet
+empty_packet = record {
+  marker = false;
+  pt = 96;
+  seq = 4;
+  ts = 9;
+  ssrc = 10;
+  csrc = [];
+  extension = None;
+  payload = [];
+  padding = 0;
 }
+
+empty_plain : IsWireForm settings 4 Empty empty_octets
+empty_plain = (
+  empty_packet,
+  record { number_is = refl; type = refl; source = refl; payload = refl },
+  inl (plain_form empty_octets empty_packet
+      (carry empty_octets (record empty_packet { padding = 1 }) refl refl refl)),
+)
 
 -- the packets of the first two frames, the empty packet, a pull, the last packet, and a pull
 abbrev events : List Event
@@ -364,14 +422,17 @@ origins = FromSender 0 ∷ FromSender 1 ∷ FromSender 2 ∷ FromSender 3 ∷ El
 
 -- the network is honest
 pub network-honest : HonestNetwork settings codec sender [] [] events origins
-unfolding snapshots packets_taken empty_is
+unfolding snapshots packets_taken
 network-honest = (
-  (inl refl, tt),
+  (first_plain, tt),
   (
-    (inl refl, (omega arith, omega arith)),
+    (second_plain, (omega arith, omega arith)),
     (
-      (inl refl, (omega arith, omega arith)),
-      ((empty_is, (omega arith, omega arith)), (tt, ((inl refl, (omega arith, omega arith)), (tt, tt)))),
+      (third_plain, (omega arith, omega arith)),
+      (
+        (empty_plain, (omega arith, omega arith)),
+        (tt, ((fourth_plain, (omega arith, omega arith)), (tt, tt))),
+      ),
     ),
   ),
 )

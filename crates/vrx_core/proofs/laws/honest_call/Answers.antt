@@ -4,5 +4,7 @@ use Rattle.vrx_core.proofs.laws.honest_call.Goals as goal
 
 pub returns : goal.returns
 returns c = record {
-  honest = honest_call c.extended_is_near.ensures.some c.one_reading.ensures.read_packet c.runs_are.ensures;
+  honest = honest_call c.extended_is_near.ensures.some
+      (record { packets = c.one_reading.ensures.read_packet; again = c.one_original.ensures.again })
+      c.runs_are.ensures;
 }

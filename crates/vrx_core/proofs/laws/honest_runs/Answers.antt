@@ -3,5 +3,8 @@ use Rattle.vrx_core.proofs.honest.HonestRunsLemmas.{honest_runs}
 use Rattle.vrx_core.proofs.laws.honest_runs.Goals as goal
 
 pub returns : goal.returns
-returns c =
-    record { runs = honest_runs c.extended_is_near.ensures.some c.one_reading.ensures.read_packet c.runs_are.ensures }
+returns c = record {
+  runs = honest_runs c.extended_is_near.ensures.some
+      (record { packets = c.one_reading.ensures.read_packet; again = c.one_original.ensures.again })
+      c.runs_are.ensures;
+}

@@ -3,4 +3,7 @@ use Rattle.vrx_core.proofs.honest.HonestTakenLemmas.{honest_taken}
 use Rattle.vrx_core.proofs.laws.honest_taken.Goals as goal
 
 pub returns : goal.returns
-returns c = record { taken = honest_taken c.extended_is_near.ensures.some c.one_reading.ensures.read_packet }
+returns c = record {
+  taken = honest_taken c.extended_is_near.ensures.some
+      (record { packets = c.one_reading.ensures.read_packet; again = c.one_original.ensures.again });
+}
