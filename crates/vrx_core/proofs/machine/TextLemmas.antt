@@ -89,7 +89,7 @@ rtcp-text octets p is rtcp =
     record { has_type = omega arith; at_least = r.at_least; at_most = r.at_most }
 
 -- the first of two lists of octets
-first-octets : (xs ys : List ℕ) → AreOctets (xs ++ ys) → AreOctets xs
+pub first-octets : (xs ys : List ℕ) → AreOctets (xs ++ ys) → AreOctets xs
 first-octets xs ys all =
     subst AreOctets (take_at xs ys (length xs) refl) (All-take (λ octet. octet < 256) (length xs) (xs ++ ys) all)
 
