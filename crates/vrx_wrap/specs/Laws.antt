@@ -37,8 +37,8 @@ abbrev pub HasOneOriginal : Type 0
 HasOneOriginal = (apt : Apt) (rtx original : Packet) → AreOctets rtx.payload →
     (original_of apt rtx ≡ Ok original) ↔ IsOriginal apt rtx original
 
--- a packet's type stands for no other exactly if no pair has it; and the packet is cut off exactly if one has, and the
--- payload has fewer than the two octets of the original's number
+-- a packet's type stands for no other exactly if no pair has it; and the packet is cut off exactly if one has, and
+-- the payload has fewer than the two octets of the original's number
 abbrev pub FailsNoApt : Type 0
 FailsNoApt = (apt : Apt) (rtx : Packet) → (original_of apt rtx ≡ Err NoApt) ↔ (IsRtxType apt rtx.pt → ⊥)
 
