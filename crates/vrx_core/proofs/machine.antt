@@ -3,6 +3,7 @@ pub mod SettingsLemmas
 pub mod TextLemmas
 pub mod SeenLemmas
 pub mod HeldLemmas
+pub mod SentLemmas
 pub mod OriginalLemmas
 pub mod ReasonLemmas
 pub mod MemberLemmas

@@ -178,10 +178,11 @@ impl<C: Codec> Engine<C> {
 
     /// Takes a datagram that came at this moment, in milliseconds.
     ///
-    /// `Media` and `Empty` have the extended number of the packet that was taken (RFC 3550 A.1), which is kept
-    /// without its padding (RFC 3550 5.1); `Rtcp` comes of RTCP packets to their end. `Dropped` has the first reason
-    /// that applies, in the order of [`reasons_mean`]: a payload that isn't empty and that the codec refuses is
-    /// `BadPart` with the codec's number, and `Form` comes of a part with layers, which isn't taken.
+    /// What is taken is a packet of the stream: the datagram itself, or the original of a retransmission (RFC 4588
+    /// 4), out of RED if it is in RED (RFC 2198 3). `Media` and `Empty` have its extended number (RFC 3550 A.1), and
+    /// it is kept without padding (RFC 3550 5.1); `Rtcp` comes of RTCP packets to their end. `Dropped` has the first
+    /// reason that applies, in the order of [`reasons_mean`]: a payload that isn't empty and that the codec refuses
+    /// is `BadPart` with the codec's number, and `Form` comes of a part with layers, which isn't taken.
     ///
     /// The feedback of a datagram that is taken asks for each number that it makes missing, by one NACK, and for a
     /// keyframe, by one PLI, if it gives up a number that no keyframe answers and no request is outstanding.

@@ -12,27 +12,37 @@ use vrx_frames::runs_are;
 use vrx_num::extended_is_near;
 use vrx_rtcp::one_answer;
 use vrx_rtp::one_reading;
+use vrx_wrap::{one_block, one_original};
 
 /// Each answer to a datagram comes exactly if it should, of octets below 256, and beside a newest number of 32,768 or
 /// more, if there is one.
 ///
 /// What octets get by themselves, whatever came before: `TooLong`, they are more than 9,216; `BadRtcp`, they are RTCP
 /// and have a fault; `Rtcp`, they are RTCP packets to their end; `NotRtp`, they are shorter than a header or of
-/// another version; `BadHeader`, what their header counts runs past their end; `OtherSsrc`, `OtherType`, they are a
-/// packet of another SSRC or payload type; `BadPart`, they are one of the stream, its payload isn't empty, and the
-/// codec's reader finds a fault of this code in it; `Form`, they are one of the stream, and its payload is a part
-/// with layers.
+/// another version; `BadHeader`, what their header counts runs past their end; `OtherSsrc`, they are a packet of
+/// another SSRC than those of media and of retransmissions; `OtherType`, they are a packet of the media SSRC, whose
+/// payload type is neither that of media nor that of RED; `NoApt`, they are a packet of the SSRC of retransmissions
+/// (RFC 4588 4), whose payload type isn't one of theirs; `RtxEmpty`, they are a retransmission, and its payload has
+/// fewer than the two octets of the original's number.
 ///
-/// Then `TooFar`: the sequence number lies just half of the number space away from the newest number. `TooOld`: the
-/// extended number lies 2,048 or more below the newest. `Dead`: not that, and the number was given up. `Repeat`:
-/// neither, and the number is available. Otherwise the datagram is taken: as `Empty` without a payload, and else as
-/// `Media`, by the text of its packet.
+/// Else they bring a packet of the media source: itself, or the original of a retransmission. If it is in RED
+/// (RFC 2198 3): `MoreBlocks`, it has more than one block; `BadRed`, its one block has another payload type than that
+/// of media. Else they bring a packet of the stream: that packet, out of RED. `BadPart`, its payload isn't empty, and
+/// the codec's reader finds a fault of this code in it; `Form`, its payload is a part with layers.
+///
+/// Then `TooFar`: that packet's sequence number lies just half of the number space away from the newest number.
+/// `TooOld`: its extended number lies 2,048 or more below the newest. `Dead`: not that, and the number was given up.
+/// `Repeat`: neither, and the number is available. Otherwise the datagram is taken: as `Empty` without a payload, and
+/// else as `Media`, by the text of its packet.
 pub fn reasons_mean()
     ensures reasons { ReasonsHolds }
 {
+    // Each call cites the laws that the proof needs, and runs nothing.
     extended_is_near();
     one_reading();
     one_answer();
+    one_original();
+    one_block();
 }
 
 /// What is kept of a datagram, of octets below 256 that read as a packet: its text reads as the packet without its

@@ -9,8 +9,11 @@ use vrx_rtcp::Feedback;
 
 /// Why a datagram was refused. Under each of them all stays as it was but the clock and the count of events.
 ///
-/// They stand in the order in which they are tested, but for `Form`, which is tested before `TooFar`. `NoApt`,
-/// `RtxEmpty`, `MoreBlocks`, `BadRed` and `BadFec` are never answered.
+/// They stand in the order in which they are tested, but for `Form`, which is tested before `TooFar`. `BadFec` is
+/// never answered.
+///
+/// From `BadPart` on they speak of the packet of the stream that the datagram brings: itself, or the original of a
+/// retransmission (RFC 4588 4), out of RED if it is in RED (RFC 2198 3).
 #[derive(Clone, Copy, Debug, PartialEq, Eq)]
 pub enum Reason {
     /// It has more than 9,216 octets.
@@ -21,17 +24,18 @@ pub enum Reason {
     NotRtp,
     /// Its contributing sources, its header extension or its padding run past its end (RFC 3550 5.1).
     BadHeader,
-    /// Its SSRC isn't the media SSRC of the settings.
+    /// Its SSRC is neither that of media nor that of retransmissions.
     OtherSsrc,
-    /// Its payload type isn't the media type of the settings.
+    /// Its SSRC is that of media, and its payload type is neither that of media nor that of RED.
     OtherType,
-    /// It is a retransmission of a payload type that the settings don't have.
+    /// Its SSRC is that of retransmissions, and its payload type isn't one of theirs (RFC 4588 8.6).
     NoApt,
-    /// It is a retransmission without an original sequence number (RFC 4588 4).
+    /// It is a retransmission, and its payload has fewer than the two octets of the original's sequence number
+    /// (RFC 4588 4).
     RtxEmpty,
-    /// It is RED of more than one block (RFC 2198 3).
+    /// It is RED of more than one block (RFC 2198 3), or a retransmission of such a packet.
     MoreBlocks,
-    /// It is RED, and its block is neither media nor FEC.
+    /// It is RED, or a retransmission of RED, and the payload type of its one block isn't that of media.
     BadRed,
     /// It is FEC that doesn't read (RFC 5109 7).
     BadFec,

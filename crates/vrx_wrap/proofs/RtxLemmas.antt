@@ -90,6 +90,14 @@ rtx_empty-typed apt p (Some pt) is = (
   λ has. ap (original_with apt p pt) (short-none p.payload has.1),
 )
 
+-- each fault of a packet, exactly
+pub no_apt-of : (apt : Apt) (p : Packet) → (original_of apt p ≡ Err NoApt) ↔ (IsRtxType apt p.pt → ⊥)
+no_apt-of apt p = no_apt-typed apt p (original_type apt p.pt) refl
+
+pub rtx_empty-of : (apt : Apt) (p : Packet)
+    → (original_of apt p ≡ Err RtxEmpty) ↔ (IsRtxType apt p.pt × (length p.payload < 2))
+rtx_empty-of apt p = rtx_empty-typed apt p (original_type apt p.pt) refl
+
 -- the fault of what was read is that of the definition
 err-read : (r : Result RtpView RtxFault) (f : RtxFault) → view_original r ≡ Err f → IsErrOf r f
 err-read (Ok v) f e = absurd cc
@@ -98,13 +106,13 @@ err-read (Err g) f e = cc
 pub no_apt-read : (apt : Apt) (p : Packet) (r : Result RtpView RtxFault) → view_original r ≡ original_of apt p
     → IsErrOf r NoApt ↔ (IsRtxType apt p.pt → ⊥)
 no_apt-read apt p r reads =
-    let exactly = no_apt-typed apt p (original_type apt p.pt) refl in
+    let exactly = no_apt-of apt p in
     (λ e. exactly.0 (sym reads ∙ ap view_original e), λ no. err-read r NoApt (reads ∙ exactly.1 no))
 
 pub rtx_empty-read : (apt : Apt) (p : Packet) (r : Result RtpView RtxFault) → view_original r ≡ original_of apt p
     → IsErrOf r RtxEmpty ↔ (IsRtxType apt p.pt × (length p.payload < 2))
 rtx_empty-read apt p r reads =
-    let exactly = rtx_empty-typed apt p (original_type apt p.pt) refl in
+    let exactly = rtx_empty-of apt p in
     (λ e. exactly.0 (sym reads ∙ ap view_original e), λ has. err-read r RtxEmpty (reads ∙ exactly.1 has))
 
 -- ---- the original

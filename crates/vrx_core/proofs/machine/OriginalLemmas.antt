@@ -1,10 +1,11 @@
 -- What octets are by themselves, and when.
-use Rattle.std.proofs.Common.{◌≡◌, ◌≢◌, ℕ, ◌≤◌, ◌==◌, ◌&&◌, Bool, true, false, not, if◌then◌else◌, List, [], ◌∷◌, length, Option, Some, None, Result, Ok, Err, refl, sym, ◌∙◌, ap, subst, inl, inr}
+use Rattle.std.proofs.Common.{◌≡◌, ◌≢◌, ℕ, ◌<◌, ◌≤◌, ◌&&◌, Bool, true, false, if◌then◌else◌, List, [], ◌∷◌, length, Option, Some, None, Result, Ok, Err, refl, sym, ◌∙◌, ap, subst, inl, inr}
 use Rattle.std.specs.Prelude.{nat_lt, nat_le, slice_index, is_some}
 use Rattle.std.specs.Result.{result_map_both}
-use Rattle.std.proofs.lemmas.Bool.{le-ltb, lt-ltb, ltb-true, ltb-false, leb-true, le-leb, eqb-true, eq-eqb, ne_eqb, and_parts, and_from, false_from_ne_true, true≢false}
+use Rattle.std.proofs.lemmas.Bool.{le-ltb, lt-ltb, ltb-true, ltb-false, leb-true, le-leb, and_parts, and_from, false_from_ne_true, true≢false}
 use Rattle.vrx_num.specs.declared.limits.TheConstants.{MOST_OCTETS}
-use Rattle.vrx_rtp.specs.Packet.{Packet}
+use Rattle.vrx_num.specs.ResultChain.{◌>>=◌}
+use Rattle.vrx_rtp.specs.Packet.{Packet, IsPacket}
 use Rattle.vrx_num.specs.Octets.{AreOctets}
 use Rattle.vrx_rtp.specs.Reading.{reading}
 use Rattle.vrx_rtp.specs.Rtcp.{IsRtcp, is_rtcp}
@@ -19,13 +20,15 @@ use Rattle.vrx_codec.specs.declared.fault.PartFault.{PartFault}
 use Rattle.vrx_codec.specs.Meaning.{Meaning}
 use Rattle.vrx_window.specs.Content.{Content, Media, Fec, Empty}
 use Rattle.vrx_core.specs.machine.Text.{packet_text}
-use Rattle.vrx_core.specs.machine.Original.{Original, part_content, content_by, fault_reason, original_read, control, original}
-use Rattle.vrx_core.specs.machine.Reasons.{IsControl, IsForRtp, IsRead, IsOfStream, IsMisread, Brings, IsBrought, MeansAside}
+use Rattle.vrx_core.specs.machine.Original.{Original, part_content, content_by, original_in, media_packet, out_of_red, fault_reason, original_read, control, original}
+use Rattle.vrx_core.specs.machine.Reasons.{IsControl, IsForRtp, IsRead, IsOrAgain, IsSent, IsOrInRed, IsOfStream, IsMisread, Brings, IsBrought, MeansAside}
 use Rattle.vrx_core.specs.declared.settings.Settings.{Settings}
 use Rattle.vrx_core.specs.declared.original.NotTaken.{NotTaken}
 use Rattle.vrx_core.specs.declared.original.NotTaken.TheVariants.{Control, Refused}
 use Rattle.vrx_core.specs.declared.reply.Reason.{Reason}
 use Rattle.vrx_core.specs.declared.reply.Reason.TheVariants.{TooLong, BadRtcp, NotRtp, BadHeader, OtherSsrc, OtherType, NoApt, RtxEmpty, MoreBlocks, BadRed, BadFec, BadPart, TooFar, TooOld, Dead, Repeat, Form}
+use Rattle.vrx_core.proofs.machine.SentLemmas.{Wraps, SaysSent, SaysPlain, sent-says, sent-is, plain-says, plain-is, payload-octets}
+use Rattle.vrx_core.proofs.machine.TextLemmas.{ReadsPacket}
 
 -- RTCP, as the test says it
 pub rtcp-to : (octets : List ℕ) → is_rtcp octets ≡ true → IsRtcp octets
@@ -48,16 +51,6 @@ rtcp-from octets r = and_from _ _
 cons-nil : (x : ℕ) (xs : List ℕ) → x ∷ xs ≡ [] → ⊥
 cons-nil x xs e = absurd (cc)
 
--- an equation that a test denies
-differs-to : (a b : ℕ) → not (a == b) ≡ true → a ≢ b
-differs-to a b h same = true≢false (sym h ∙ ap not (eq-eqb a b same))
-
-same-to : (a b : ℕ) → not (a == b) ≡ false → a ≡ b
-same-to a b h = eqb-true a b (denied (a == b) h) where
-  denied : (c : Bool) → not c ≡ false → c ≡ true
-  denied true h = refl
-  denied false h = absurd (true≢false h)
-
 -- a packet that brings this, or why not
 abbrev made : Packet → Result Content Reason → Result Original Reason
 made packet r = result_map_both (λ content. record { wire = packet.seq; content = content }) (λ reason. reason) r
@@ -66,32 +59,55 @@ abbrev refused : Result Original Reason → Result Original NotTaken
 refused r = result_map_both (λ packet. packet) Refused r
 
 -- by the tests, each with what comes after it
-abbrev by_type : Bool → Result Original Reason → Result Original Reason
-by_type other r = if other then Err OtherType else r
-
-abbrev by_source : Bool → Result Original Reason → Result Original Reason
-by_source other r = if other then Err OtherSsrc else r
-
 abbrev by_rtcp : Bool → NotTaken → Result Original NotTaken → Result Original NotTaken
 by_rtcp rtcp left r = if rtcp then Err left else r
 
 abbrev by_size : Bool → Result Original NotTaken → Result Original NotTaken
 by_size long r = if long then Err (Refused TooLong) else r
 
-module _ (passes : PassesCompounds) (fails : FailsFaults) (settings : Settings) (codec : Meaning) (octets : List ℕ)
-    (below : AreOctets octets) where
-  -- what it means that octets are this
-  abbrev pub Said : Result Original NotTaken → Type 0
-  Said (Err left) = MeansAside settings codec octets left
-  Said (Ok o) = (packet : Packet) × IsBrought settings codec octets packet o.content × (packet.seq ≡ o.wire)
+-- what comes of the media packet, and of the packet of the media source
+abbrev from_plain : Meaning → Result Packet Reason → Result Original Reason
+from_plain codec r = r >>= λ plain. original_in codec plain
+
+abbrev from_sent : Settings → Meaning → Result Packet Reason → Result Original Reason
+from_sent settings codec r = r >>= λ sent. from_plain codec (out_of_red settings sent)
+
+-- what it means that octets are this
+abbrev pub Said : Settings → Meaning → List ℕ → Result Original NotTaken → Type 0
+Said settings codec octets (Err left) = MeansAside settings codec octets left
+Said settings codec octets (Ok o) =
+    (packet : Packet) × IsBrought settings codec octets packet o.content × (packet.seq ≡ o.wire)
+
+module _ (wraps : Wraps) (packets : ReadsPacket) (passes : PassesCompounds) (fails : FailsFaults)
+    (settings : Settings) (codec : Meaning) (octets : List ℕ) (below : AreOctets octets) where
+  is-packet : (packet : Packet) → IsRead octets packet → IsPacket octets packet
+  is-packet packet read = (packets octets packet below).0 read.reads
+
+  are-octets : (packet : Packet) → IsRead octets packet → AreOctets packet.payload
+  are-octets packet read = payload-octets octets packet (is-packet packet read) below
+
+  -- a wire number has 16 bits, in the datagram's header or in a retransmission's payload
+  sent-below : (packet sent : Packet) → IsRead octets packet → IsOrAgain settings packet sent → sent.seq < 65536
+  sent-below packet sent read (inl (direct, same)) =
+      subst (λ (p : Packet). p.seq < 65536) (sym same) (is-packet packet read).fits.seq
+  sent-below packet sent read (inr (again, original)) = original.number
+
+  plain-below : (sent plain : Packet) → sent.seq < 65536 → IsOrInRed settings sent plain → plain.seq < 65536
+  plain-below sent plain small (inl (other, same)) = subst (λ (p : Packet). p.seq < 65536) (sym same) small
+  plain-below sent plain small (inr is) = subst (λ (p : Packet). p.seq < 65536) (sym is.same) small
+
+  pub seq-below : (packet : Packet) → IsOfStream settings octets packet → packet.seq < 65536
+  seq-below packet stream =
+      let s = stream.is in
+      plain-below stream.sent packet (sent-below s.packet stream.sent s.read s.brings) stream.plain
 
   said_control : IsControl octets → (c : Bool) → is_compound octets ≡ c →
-      Said (Err (if c then Control else Refused BadRtcp))
+      Said settings codec octets (Err (if c then Control else Refused BadRtcp))
   said_control is true passed = let c = (passes octets below).0 passed in (is, c.0, c.1)
   said_control is false failed = let f = (fails octets below).0 failed in (is, f.0, f.1)
 
   said_fault : IsForRtp octets → (fault : RtpFault) → reading octets ≡ Err fault → (kind : RtpFaultKind) →
-      fault.kind ≡ kind → Said (Err (Refused (fault_reason kind)))
+      fault.kind ≡ kind → Said settings codec octets (Err (Refused (fault_reason kind)))
   said_fault rtp fault reads Short kind = inl (record { rtp = rtp; fault = fault; reads = reads; kind = kind })
   said_fault rtp fault reads Version kind = inr (record { rtp = rtp; fault = fault; reads = reads; kind = kind })
   said_fault rtp fault reads CsrcPastEnd kind = inl (record { rtp = rtp; fault = fault; reads = reads; kind = kind })
@@ -102,7 +118,8 @@ module _ (passes : PassesCompounds) (fails : FailsFaults) (settings : Settings) 
 
   said_part : (packet : Packet) → IsOfStream settings octets packet → packet.payload ≢ [] → (part : Part) →
       codec.read packet.payload ≡ Ok part → (layers : Option Layers) → part.layers ≡ layers
-      → Said (refused (made packet (if is_some layers then Err Form else Ok (Media (packet_text packet)))))
+      → Said settings codec octets
+      (refused (made packet (if is_some layers then Err Form else Ok (Media (packet_text packet)))))
   said_part packet stream some part reads None is = (
     packet,
     record {
@@ -116,57 +133,93 @@ module _ (passes : PassesCompounds) (fails : FailsFaults) (settings : Settings) 
 
   said_read : (packet : Packet) → IsOfStream settings octets packet → packet.payload ≢ [] →
       (r : Result Part PartFault) → codec.read packet.payload ≡ r →
-      Said (refused (made packet (part_content (packet_text packet) r)))
+      Said settings codec octets (refused (made packet (part_content (packet_text packet) r)))
   said_read packet stream some (Err fault) reads =
       (packet, stream, record { some = some; fault = fault; reads = reads; code_is = refl })
   said_read packet stream some (Ok part) reads = said_part packet stream some part reads part.layers refl
 
   said_payload : (packet : Packet) → IsOfStream settings octets packet → (payload : List ℕ) →
-      packet.payload ≡ payload → Said (refused (made packet (content_by codec (packet_text packet) payload)))
+      packet.payload ≡ payload
+      → Said settings codec octets (refused (made packet (content_by codec (packet_text packet) payload)))
   said_payload packet stream [] is = (packet, record { stream = stream; brings = is }, refl)
   said_payload packet stream (octet ∷ rest) is =
       said_read packet stream (λ none. absurd (cons-nil octet rest (sym is ∙ none))) (codec.read (octet ∷ rest))
       (ap codec.read is)
 
-  said_type : (packet : Packet) → IsRead octets packet → packet.ssrc ≡ settings.media_ssrc → (other : Bool) →
-      not (packet.pt == settings.media_type) ≡ other
-      → Said (refused (by_type other (made packet (content_by codec (packet_text packet) packet.payload))))
-  said_type packet read source true is = (packet, read, source, differs-to packet.pt settings.media_type is)
-  said_type packet read source false is =
-      said_payload packet (record { read = read; source = source; type = same-to packet.pt settings.media_type is })
-      packet.payload refl
+  -- what comes out of RED
+  said_plain : (sent : Packet) → IsSent settings octets sent → (r : Result Packet Reason) →
+      SaysPlain settings sent r → Said settings codec octets (refused (from_plain codec r))
+  said_plain sent is (Ok plain) says =
+      said_payload plain (record { sent = sent; is = is; plain = says }) plain.payload refl
+  said_plain sent is (Err MoreBlocks) says = (sent, is, says.0, says.1)
+  said_plain sent is (Err BadRed) says = (sent, is, says.0, says.1, says.2, says.3)
+  said_plain sent is (Err TooLong) says = absurd says
+  said_plain sent is (Err BadRtcp) says = absurd says
+  said_plain sent is (Err NotRtp) says = absurd says
+  said_plain sent is (Err BadHeader) says = absurd says
+  said_plain sent is (Err OtherSsrc) says = absurd says
+  said_plain sent is (Err OtherType) says = absurd says
+  said_plain sent is (Err NoApt) says = absurd says
+  said_plain sent is (Err RtxEmpty) says = absurd says
+  said_plain sent is (Err BadFec) says = absurd says
+  said_plain sent is (Err (BadPart code)) says = absurd says
+  said_plain sent is (Err TooFar) says = absurd says
+  said_plain sent is (Err TooOld) says = absurd says
+  said_plain sent is (Err Dead) says = absurd says
+  said_plain sent is (Err Repeat) says = absurd says
+  said_plain sent is (Err Form) says = absurd says
 
-  said_source : (packet : Packet) → IsRead octets packet → (other : Bool) →
-      not (packet.ssrc == settings.media_ssrc) ≡ other
-      → Said (refused (by_source other
-      (by_type (not (packet.pt == settings.media_type))
-      (made packet (content_by codec (packet_text packet) packet.payload)))))
-  said_source packet read true is = (packet, read, differs-to packet.ssrc settings.media_ssrc is)
-  said_source packet read false is =
-      said_type packet read (same-to packet.ssrc settings.media_ssrc is) (not (packet.pt == settings.media_type)) refl
+  -- what is of the media source
+  said_sent : (packet : Packet) → IsRead octets packet → (r : Result Packet Reason) → SaysSent settings packet r →
+      Said settings codec octets (refused (from_sent settings codec r))
+  said_sent packet read (Ok sent) says =
+      said_plain sent (record { packet = packet; read = read; brings = says }) (out_of_red settings sent)
+      (plain-says settings wraps sent)
+  said_sent packet read (Err OtherSsrc) says = (packet, read, says.0, says.1)
+  said_sent packet read (Err OtherType) says = (packet, read, says.0, says.1, says.2)
+  said_sent packet read (Err NoApt) says = (packet, read, says.0, says.1)
+  said_sent packet read (Err RtxEmpty) says = (packet, read, says.0, says.1, says.2)
+  said_sent packet read (Err TooLong) says = absurd says
+  said_sent packet read (Err BadRtcp) says = absurd says
+  said_sent packet read (Err NotRtp) says = absurd says
+  said_sent packet read (Err BadHeader) says = absurd says
+  said_sent packet read (Err MoreBlocks) says = absurd says
+  said_sent packet read (Err BadRed) says = absurd says
+  said_sent packet read (Err BadFec) says = absurd says
+  said_sent packet read (Err (BadPart code)) says = absurd says
+  said_sent packet read (Err TooFar) says = absurd says
+  said_sent packet read (Err TooOld) says = absurd says
+  said_sent packet read (Err Dead) says = absurd says
+  said_sent packet read (Err Repeat) says = absurd says
+  said_sent packet read (Err Form) says = absurd says
 
   said_reading : IsForRtp octets → (r : Result Packet RtpFault) → reading octets ≡ r →
-      Said (refused (original_read settings codec r))
+      Said settings codec octets (refused (original_read settings codec r))
   said_reading rtp (Err fault) reads = said_fault rtp fault reads fault.kind refl
   said_reading rtp (Ok packet) reads =
-      said_source packet (record { rtp = rtp; reads = reads }) (not (packet.ssrc == settings.media_ssrc)) refl
+      let read : IsRead octets packet = record { rtp = rtp; reads = reads } in
+      said_sent packet read (media_packet settings packet) (sent-says settings wraps packet (are-octets packet read))
 
   said_rtcp : length octets ≤ MOST_OCTETS → (c : Bool) → is_rtcp octets ≡ c →
-      Said (by_rtcp c (control octets) (refused (original_read settings codec (reading octets))))
+      Said settings codec octets
+      (by_rtcp c (control octets) (refused (original_read settings codec (reading octets))))
   said_rtcp short true is = said_control (record { size = short; rtcp = rtcp-to octets is }) (is_compound octets) refl
   said_rtcp short false is =
       said_reading (record { size = short; other = λ r. true≢false (sym (rtcp-from octets r) ∙ is) })
       (reading octets) refl
 
   said_size : (long : Bool) → nat_lt MOST_OCTETS (length octets) ≡ long →
-      Said (by_size long (by_rtcp (is_rtcp octets) (control octets)
+      Said settings codec octets
+      (by_size long (by_rtcp (is_rtcp octets) (control octets)
       (refused (original_read settings codec (reading octets)))))
   said_size true is = ltb-true MOST_OCTETS (length octets) is
   said_size false is = said_rtcp (ltb-false MOST_OCTETS (length octets) is) (is_rtcp octets) refl
 
   -- octets are only what that means
-  pub original-to : (r : Result Original NotTaken) → original settings codec octets ≡ r → Said r
-  original-to r is = subst Said is (said_size (nat_lt MOST_OCTETS (length octets)) refl)
+  pub original-to : (r : Result Original NotTaken) → original settings codec octets ≡ r →
+      Said settings codec octets r
+  original-to r is =
+      subst (Said settings codec octets) is (said_size (nat_lt MOST_OCTETS (length octets)) refl)
 
   -- octets that aren't too long
   short_is : length octets ≤ MOST_OCTETS →
@@ -196,28 +249,26 @@ module _ (passes : PassesCompounds) (fails : FailsFaults) (settings : Settings) 
     misread k = Err (Refused (fault_reason k))
 
   read_is : (packet : Packet) → IsRead octets packet →
-      original settings codec octets ≡ refused
-      (by_source (not (packet.ssrc == settings.media_ssrc))
-      (by_type (not (packet.pt == settings.media_type))
-      (made packet (content_by codec (packet_text packet) packet.payload))))
+      original settings codec octets ≡ refused (from_sent settings codec (media_packet settings packet))
   read_is packet read = rtp_is read.rtp (Ok packet) read.reads
 
-  source_is : (packet : Packet) → IsRead octets packet → packet.ssrc ≡ settings.media_ssrc →
-      original settings codec octets ≡ refused
-      (by_type (not (packet.pt == settings.media_type))
-      (made packet (content_by codec (packet_text packet) packet.payload)))
-  source_is packet read source = read_is packet read
-      ∙ ap (λ b. refused (by_source (not b)
-      (by_type (not (packet.pt == settings.media_type))
-      (made packet (content_by codec (packet_text packet) packet.payload)))))
-      (eq-eqb packet.ssrc settings.media_ssrc source)
+  -- what is of the media source, or isn't
+  sent_is : (packet : Packet) → IsRead octets packet → (r : Result Packet Reason) → SaysSent settings packet r →
+      original settings codec octets ≡ refused (from_sent settings codec r)
+  sent_is packet read r says = read_is packet read
+      ∙ ap (λ x. refused (from_sent settings codec x))
+      (sent-is settings wraps packet (are-octets packet read) r says)
+
+  -- what comes out of RED, or doesn't
+  plain_is : (sent : Packet) → IsSent settings octets sent → (r : Result Packet Reason) → SaysPlain settings sent r →
+      original settings codec octets ≡ refused (from_plain codec r)
+  plain_is sent is r says = sent_is is.packet is.read (Ok sent) is.brings
+      ∙ ap (λ x. refused (from_plain codec x)) (plain-is settings wraps sent r says)
 
   -- a packet of the stream
   stream_is : (packet : Packet) → IsOfStream settings octets packet →
       original settings codec octets ≡ refused (made packet (content_by codec (packet_text packet) packet.payload))
-  stream_is packet stream = source_is packet stream.read stream.source
-      ∙ ap (λ b. refused (by_type (not b) (made packet (content_by codec (packet_text packet) packet.payload))))
-      (eq-eqb packet.pt settings.media_type stream.type)
+  stream_is packet stream = plain_is stream.sent stream.is (Ok packet) stream.plain
 
   -- a payload that isn't empty brings what the codec reads
   payload_is : (text payload : List ℕ) → payload ≢ [] →
@@ -263,13 +314,12 @@ module _ (passes : PassesCompounds) (fails : FailsFaults) (settings : Settings) 
   aside-is (Refused BadHeader) (inl m) = misread_is CsrcPastEnd m
   aside-is (Refused BadHeader) (inr (inl m)) = misread_is ExtensionPastEnd m
   aside-is (Refused BadHeader) (inr (inr m)) = misread_is PaddingPastEnd m
-  aside-is (Refused OtherSsrc) m = read_is m.0 m.1
-      ∙ ap (λ b. refused (by_source (not b)
-      (by_type (not (m.0.pt == settings.media_type)) (made m.0 (content_by codec (packet_text m.0) m.0.payload)))))
-      (ne_eqb m.0.ssrc settings.media_ssrc m.2)
-  aside-is (Refused OtherType) m = source_is m.0 m.1 m.2
-      ∙ ap (λ b. refused (by_type (not b) (made m.0 (content_by codec (packet_text m.0) m.0.payload))))
-      (ne_eqb m.0.pt settings.media_type m.3)
+  aside-is (Refused OtherSsrc) m = sent_is m.0 m.1 (Err OtherSsrc) (m.2, m.3)
+  aside-is (Refused OtherType) m = sent_is m.0 m.1 (Err OtherType) (m.2, m.3, m.4)
+  aside-is (Refused NoApt) m = sent_is m.0 m.1 (Err NoApt) (m.2, m.3)
+  aside-is (Refused RtxEmpty) m = sent_is m.0 m.1 (Err RtxEmpty) (m.2, m.3, m.4)
+  aside-is (Refused MoreBlocks) m = plain_is m.0 m.1 (Err MoreBlocks) (m.2, m.3)
+  aside-is (Refused BadRed) m = plain_is m.0 m.1 (Err BadRed) (m.2, m.3, m.4, m.5)
   aside-is (Refused Form) m =
       stream_is m.0 m.1
       ∙ ap (λ r. refused (made m.0 r))
@@ -284,10 +334,6 @@ module _ (passes : PassesCompounds) (fails : FailsFaults) (settings : Settings) 
       ∙ ap bad m.2.code_is) where
         bad : ℕ → Result Content Reason
         bad c = Err (BadPart c)
-  aside-is (Refused NoApt) m = absurd m
-  aside-is (Refused RtxEmpty) m = absurd m
-  aside-is (Refused MoreBlocks) m = absurd m
-  aside-is (Refused BadRed) m = absurd m
   aside-is (Refused BadFec) m = absurd m
   aside-is (Refused Dead) m = absurd m
   aside-is (Refused TooFar) m = absurd m

@@ -22,7 +22,8 @@ use Rattle.vrx_core.specs.declared.original.NotTaken.TheVariants.{Control, Refus
 use Rattle.vrx_core.specs.declared.reply.What.{What}
 use Rattle.vrx_core.specs.declared.reply.What.TheVariants as whats
 use Rattle.vrx_core.specs.declared.reply.Reason.TheVariants.{TooLong, BadRtcp, NotRtp, BadHeader, OtherSsrc, OtherType, NoApt, RtxEmpty, MoreBlocks, BadRed, BadFec, BadPart, Form, TooFar, TooOld, Dead, Repeat}
-use Rattle.vrx_core.proofs.machine.OriginalLemmas.{Said, original-to, aside-is, brought-is}
+use Rattle.vrx_core.proofs.machine.OriginalLemmas.{Said, original-to, aside-is, brought-is, seq-below}
+use Rattle.vrx_core.proofs.machine.SentLemmas.{Wraps}
 use Rattle.vrx_core.proofs.machine.TextLemmas.{ReadsPacket}
 
 -- the place of a number, by the three tests
@@ -60,9 +61,9 @@ half_away-from : GivesNoneHalfAway → (newest : Option ℕ) (wire : ℕ) → If
 half_away-from law None wire from below away = absurd away
 half_away-from law (Some m) wire from below away = (law m wire from below).1 away
 
-module _ (reads : ReadsPacket) (passes : PassesCompounds) (fails : FailsFaults) (none : GivesNoneHalfAway)
-    (settings : Settings) (codec : Meaning) (window : Contents Content) (octets : List ℕ) (octet : AreOctets octets)
-    (from : IfSome window.newest (λ m. HALF_SPACE ≤ m)) where
+module _ (wraps : Wraps) (reads : ReadsPacket) (passes : PassesCompounds) (fails : FailsFaults)
+    (none : GivesNoneHalfAway) (settings : Settings) (codec : Meaning) (window : Contents Content) (octets : List ℕ)
+    (octet : AreOctets octets) (from : IfSome window.newest (λ m. HALF_SPACE ≤ m)) where
   -- what comes of a packet that brings this, once its number is known
   abbrev numbered : Content → Option ℕ → Result (ℕ × Content) NotTaken
   numbered content number = ok_or number (Refused TooFar) >>= λ n. if_fresh (would_of window n) (n, content)
@@ -74,7 +75,7 @@ module _ (reads : ReadsPacket) (passes : PassesCompounds) (fails : FailsFaults) 
   -- a wire number has 16 bits
   wire-below : (packet : Packet) (content : Content) → IsBrought settings codec octets packet content →
       packet.seq < 65536
-  wire-below packet content is = ((reads octets packet octet).0 is.stream.read.reads).fits.seq
+  wire-below packet content is = seq-below wraps reads passes fails settings codec octets octet packet is.stream
 
   -- the place of a number says what is so
   means_placed : (n : ℕ) (content : Content) → IsNumbered settings codec window.newest octets n content →
@@ -122,7 +123,7 @@ module _ (reads : ReadsPacket) (passes : PassesCompounds) (fails : FailsFaults) 
   means_aside (Refused (BadPart code)) m = m
 
   -- the table says what is so
-  means_table : (r : Result Original NotTaken) → Said passes fails settings codec octets octet r →
+  means_table : (r : Result Original NotTaken) → Said settings codec octets r →
       Means settings codec window octets (table r)
   means_table (Err left) said = means_aside left said
   means_table (Ok o) said =
@@ -134,7 +135,7 @@ module _ (reads : ReadsPacket) (passes : PassesCompounds) (fails : FailsFaults) 
       Means settings codec window octets r
   verdict-to r is = subst (Means settings codec window octets) is
       (means_table (original settings codec octets)
-      (original-to passes fails settings codec octets octet (original settings codec octets) refl))
+      (original-to wraps reads passes fails settings codec octets octet (original settings codec octets) refl))
 
   -- what the octets are by themselves decides
   table_is : (r : Result Original NotTaken) → original settings codec octets ≡ r →
@@ -146,7 +147,7 @@ module _ (reads : ReadsPacket) (passes : PassesCompounds) (fails : FailsFaults) 
       verdict settings codec window octets ≡ numbered content (extended_number window.newest packet.seq)
   brought_is packet content is =
       table_is (Ok (record { wire = packet.seq; content = content }))
-      (brought-is passes fails settings codec octets octet packet content is)
+      (brought-is wraps reads passes fails settings codec octets octet packet content is)
 
   -- and of a number its place
   numbered_is : (n : ℕ) (content : Content) → IsNumbered settings codec window.newest octets n content →
@@ -163,7 +164,7 @@ module _ (reads : ReadsPacket) (passes : PassesCompounds) (fails : FailsFaults) 
   -- an answer that octets get by themselves
   aside_is : (left : NotTaken) → MeansAside settings codec octets left →
       verdict settings codec window octets ≡ Err left
-  aside_is left m = table_is (Err left) (aside-is passes fails settings codec octets octet left m)
+  aside_is left m = table_is (Err left) (aside-is wraps reads passes fails settings codec octets octet left m)
 
   -- and back
   pub verdict-from : (r : Result (ℕ × Content) NotTaken) → Means settings codec window octets r →
@@ -196,10 +197,10 @@ module _ (reads : ReadsPacket) (passes : PassesCompounds) (fails : FailsFaults) 
       numbered_is n content m.0 false false false (not_below-from window.newest n m.1) m.2 m.3
 
 -- a verdict comes exactly if its meaning holds
-pub reasons_mean : ReadsPacket → PassesCompounds → FailsFaults → GivesNoneHalfAway → ReasonsHolds
-reasons_mean reads passes fails none settings codec window octets octet from result = (
-  verdict-to reads passes fails none settings codec window octets octet from result,
-  verdict-from reads passes fails none settings codec window octets octet from result,
+pub reasons_mean : Wraps → ReadsPacket → PassesCompounds → FailsFaults → GivesNoneHalfAway → ReasonsHolds
+reasons_mean wraps reads passes fails none settings codec window octets octet from result = (
+  verdict-to wraps reads passes fails none settings codec window octets octet from result,
+  verdict-from wraps reads passes fails none settings codec window octets octet from result,
 )
 
 -- an answer comes exactly if its meaning holds
