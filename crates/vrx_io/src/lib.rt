@@ -21,5 +21,5 @@ pub use failed::Failed;
 pub use memory::{MemSink, MemSource};
 pub use sink::{Sink, put};
 pub use source::Source;
-pub use standard::{StdSink, StdSource};
+pub use standard::{ReadOnce, StdSink, StdSource, WriteOnce};
 pub use sure::{SureSink, SureSource};

@@ -1,10 +1,12 @@
 // What no clause says: that calls succeed with ample memory, and each adapter at a concrete type.
 ghost use Rattle.std.specs.Prelude.{◌≡◌, [], ◌∷◌, ◌++◌, take, IfOk, IfSome, OnOk, OnErr};
-ghost use Rattle.vrx_io.specs.Faults.{Rose};
+ghost use Rattle.vrx_io.specs.Faults.{Rose, next_count};
 ghost use Rattle.vrx_io.specs.Sink.{with_more, TakesShortPrefix};
 
+use crate::failed::count_up;
 use crate::{
-    Failed, MemSink, MemSource, Sink, Source, StdSink, StdSource, SureSink, SureSource, put,
+    Failed, MemSink, MemSource, ReadOnce, Sink, Source, StdSink, StdSource, SureSink, SureSource,
+    put,
 };
 use std::io;
 use std::io::{Read, Write};
@@ -132,6 +134,34 @@ fn a_reader_and_a_writer_of_std_are_passed_on(rt: HostRuntime) -> Result<(), Fai
     assert_eq!(rt; sink.write(b"hello"), Ok(5));
     assert_eq!(rt; sink.write(b"hello"), Err(Failed));
     assert_eq!(rt; sink.write(b""), Ok(0));
+    Ok(())
+}
+
+// A reader that counts its calls, and always fails.
+#[derive(Drop)]
+struct Ticks {
+    calls: u64,
+}
+
+impl ReadOnce for Ticks {
+    ghost is_call = { λ old room answer buf new. new.calls ≡ next_count old.calls };
+
+    fn read_once(&mut self, buf: &mut [u8]) -> io::Result<usize> {
+        self.calls = count_up(self.calls);
+        Err(io::ErrorKind::Interrupted.into())
+    }
+}
+
+// A caller that knows of its reader what a call does, and so of its source that a read is one call.
+fn tick(source: &mut StdSource<Ticks>) -> Result<usize, Failed>
+    ensures once { source.new.device.calls ≡ next_count source.old.device.calls }
+{
+    source.read(&mut [])
+}
+
+#[test]
+fn a_read_that_fails_is_one_call(rt: HostRuntime) -> Result<(), Fail> {
+    assert_eq!(rt; tick(&mut StdSource::new(Ticks { calls: 0 })), Err(Failed));
     Ok(())
 }
 
