@@ -25,7 +25,11 @@ fn bare_text(alloc: Global, packet: &RtpView<'_>) -> Result<Bytes, NoMemory>
 
 /// The text of the packet that a datagram brings: the datagram if it is that packet as it stands, and else the packet
 /// written without its padding (RFC 3550 5.1).
-pub(crate) fn text_of(alloc: Global, octets: &[u8], seen: &PacketSeen<'_>) -> Result<Bytes, NoMemory>
+pub(crate) fn text_of(
+    alloc: Global,
+    octets: &[u8],
+    seen: &PacketSeen<'_>,
+) -> Result<Bytes, NoMemory>
     requires fits { Fits (view seen.now.packet) }
     requires bare { seen.now.bare ≡ true → packet_text (view seen.now.packet) ≡ octets.now }
     ensures text { IfOk result (λ text. text ≡ packet_text (view seen.now.packet)) }

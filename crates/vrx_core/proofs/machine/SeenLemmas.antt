@@ -1,7 +1,7 @@
 -- What octets bring fits them: the packet of a retransmission or in RED has no more octets than the datagram, and each
 -- of its fields has room in its header.
-use Rattle.std.proofs.Common.{get_or, ◌≡◌, ◌≢◌, ℕ, zero, suc, ◌+◌, ◌<◌, ◌≤◌, ◌/◌, ◌==◌, ◌||◌, Bool, true, false, cond, if◌then◌else◌, List, [], ◌∷◌, ◌++◌, length, Option, None, Some, Result, Ok, Err, refl, sym, ◌∙◌, ap, subst, arith}
-use Rattle.std.specs.Prelude.{All, IfOk, IfSome, drop, is_some}
+use Rattle.std.proofs.Common.{get_or, ◌≡◌, ℕ, zero, suc, ◌+◌, ◌<◌, ◌≤◌, ◌/◌, ◌==◌, ◌||◌, Bool, true, false, cond, if◌then◌else◌, List, [], ◌∷◌, ◌++◌, length, Option, None, Some, Result, Ok, Err, refl, sym, ◌∙◌, ap, subst, arith}
+use Rattle.std.specs.Prelude.{IfOk, IfSome, is_some}
 use Rattle.std.specs.Int.{w16, w32, to_be_bytes}
 use Rattle.std.specs.List.{find}
 use Rattle.std.specs.Option.{option_map}
@@ -12,15 +12,14 @@ use Rattle.std.proofs.lemmas.Option.{none-some, same_Some}
 use Rattle.vrx_num.specs.declared.limits.TheConstants.{MOST_OCTETS}
 use Rattle.vrx_num.specs.Octets.{AreOctets}
 use Rattle.vrx_num.specs.ResultChain.{◌>>=◌}
-use Rattle.vrx_rtp.specs.Packet.{Packet, Fits, FitsExtension, IsPacket, AreWords, fixed_header, extension_octets, first_octet, marker_and_type, padding_octets, octets_with}
+use Rattle.vrx_rtp.specs.Packet.{Packet, Fits, FitsExtension, IsPacket, AreWords, fixed_header, extension_octets, first_octet, marker_and_type, padding_octets}
 use Rattle.vrx_rtp.specs.View.{view}
 use Rattle.vrx_codec.specs.Meaning.{Meaning}
 use Rattle.vrx_wrap.specs.Laws.{HasOneBlock, HasOneOriginal}
-use Rattle.vrx_wrap.specs.Red.{Block, IsRed, block_of}
+use Rattle.vrx_wrap.specs.Red.{Block, block_of}
 use Rattle.vrx_wrap.specs.Rtx.{IsOriginal, original_type, original_of as rtx_original}
 use Rattle.vrx_wrap.specs.declared.red.RedFault.{RedFault}
 use Rattle.vrx_wrap.specs.declared.red.RedFault.TheVariants as reds
-use Rattle.vrx_wrap.specs.declared.rtx.RtxFault.{RtxFault}
 use Rattle.vrx_core.specs.machine.Original.{apt_of, as_media, from_block, is_red_type, media_packet, original_from, out_of_red, red_pair, rtx_reason}
 use Rattle.vrx_core.specs.machine.Text.{without_padding, packet_text}
 use Rattle.vrx_core.specs.inside.Seen.{HasTypes, IsSeen, Says, packet_brought}
