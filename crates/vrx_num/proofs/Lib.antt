@@ -1,3 +1,4 @@
--- Numbers around the newest one, and rows by hand.
+-- Numbers and pictures beside the newest one, and rows by hand.
 mod ExtendedLemmas
 mod ExtendedRows
+mod PictureRows

@@ -48,3 +48,38 @@ fn keeps_numbers_in_order(rt: HostRuntime) -> Result<(), NoMemory> {
     assert_eq!(rt; numbers.as_slice(), &want[..]);
     Ok(())
 }
+
+#[test]
+fn extends_pictures_beside_the_newest(rt: HostRuntime) {
+    for (newest, wire, want) in [
+        (None, 0, 32_768), // the first
+        (Some(65_535), 0, 65_536), // one ahead, over the wrap
+        (Some(65_536), 32_767, 65_535), // one back, over the wrap
+        (Some(65_536), 16_383, 81_919), // the farthest ahead
+        (Some(65_536), 16_384, 49_152), // just half of the space away
+    ] {
+        let mut pictures = Pictures::new();
+        if let Some(newest) = newest {
+            pictures.accept(newest);
+        }
+        assert_eq!(rt; pictures.extend(wire), want, "{wire} after {newest:?}");
+    }
+}
+
+#[test]
+fn keeps_the_greater_picture(rt: HostRuntime) {
+    let mut pictures = Pictures::new();
+    assert_eq!(rt; pictures.newest(), None);
+    for (taken, want) in [(32_770, 32_770), (32_769, 32_770), (32_771, 32_771)] {
+        pictures.accept(taken);
+        assert_eq!(rt; pictures.newest(), Some(want), "after {taken}");
+    }
+}
+
+#[test]
+fn steps_over_the_ends_of_an_index(rt: HostRuntime) {
+    for (index, next) in [(0, 1), (254, 255), (255, 0)] {
+        assert_eq!(rt; next8(index), next);
+        assert_eq!(rt; before8(next), index);
+    }
+}
