@@ -15,7 +15,7 @@ use crate::part::Part;
 /// How a codec's payloads read as parts of frames, and how the parts of a frame join to its bytes. No call takes
 /// memory.
 ///
-/// To join parts: begin with `Join { unit: None, octets: 0 }`, let each part `step`, and `end`. That gives the number
+/// To join parts: begin with [`BEGINNING`](crate::BEGINNING), let each part `step`, and `end`. That gives the number
 /// of octets, or the fault. Then `append` the parts from the same beginning on.
 pub trait Codec {
     /// How a payload reads, and to which bytes a list of parts joins.

@@ -13,7 +13,7 @@ mod run;
 
 pub use codec::Codec;
 pub use fault::{JoinFault, PartFault};
-pub use join::Join;
+pub use join::{BEGINNING, Join};
 pub use octet::bit;
 pub use part::{Layers, Part, Start};
 pub use run::{Place, Run};

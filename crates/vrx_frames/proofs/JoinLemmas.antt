@@ -89,11 +89,6 @@ pub parts-next : (codec : Meaning) (packets : Packets) (n count more : ℕ) (par
 parts-next codec packets n count more part is same =
     ap (λ k. parts_from codec packets n k) same ∙ ap (λ o. cons_option o (parts_from codec packets (n + 1) more)) is
 
--- no part is left
-pub parts-none : (codec : Meaning) (packets : Packets) (n count : ℕ) → count ≡ 0 →
-    parts_from codec packets n count ≡ []
-parts-none codec packets n count none = ap (λ k. parts_from codec packets n k) none
-
 -- what a sound media packet says
 pub says-soundly : (codec : Meaning) (packets : List (ℕ × Held)) (n : ℕ) (text : List ℕ) (marker : Bool) (ts : ℕ)
     (start : Start) (key : Bool) (layers : Option Place) → AreSound codec packets →

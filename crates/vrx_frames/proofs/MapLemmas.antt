@@ -16,10 +16,6 @@ use Rattle.vrx_window.specs.Window.{at, is_available}
 pub same_key : (n k : ℕ) → eq_by_cmp nat_cmp n k ≡ true → n ≡ k
 same_key n k h = grind (arith, common_steps)
 
--- equal keys
-pub equal_key : (n k : ℕ) → nat_cmp n k ≡ Equal → n ≡ k
-equal_key n k h = grind (arith, common_steps)
-
 -- keys whose comparison is less
 pub less_key : (n k : ℕ) → is_lt (nat_cmp n k) ≡ true → n < k
 less_key n k h = grind (arith, common_steps)

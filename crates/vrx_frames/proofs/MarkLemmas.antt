@@ -263,37 +263,6 @@ mark-next from count first newest before marks entries numbered is inside upto e
     | inr e ↦ elim e [ inl a ↦ a | inr a ↦ absurd (omega arith) ]
   ]
 
--- nothing is marked yet
-pub mark-none : (from first : ℕ) (marks : List (ℕ × ℕ)) → MarkedUpTo from 0 first marks marks
-mark-none from first marks =
-    record { here = λ m above below. absurd (omega arith); below = λ m less. refl; above = λ m more. refl }
-
--- all are marked
-pub mark-all : (from last count first : ℕ) (before after : List (ℕ × ℕ)) → count ≡ last - from + 1 → from ≤ last →
-    MarkedUpTo from count first before after → (m : ℕ) → at m after ≡ mark_with from last first before m
-mark-all from last count first before after size upto marked m = elim (cases_order m from) [
-  | inl same ↦ inside (omega arith) (omega arith)
-  | inr other ↦ elim other [
-    | inl less ↦ marked.below m less
-        ∙ sym (ap (λ b. cond (b && nat_le m last) (Some first) (at m before))
-        (false_from_ne_true (nat_le from m) (λ h. let k : from ≤ m = leb-true from m h in omega arith)))
-    | inr more ↦ elim (cases_order m (last + 1)) [
-      | inl e ↦ outside (omega arith)
-      | inr e ↦ elim e [ inl a ↦ inside (omega arith) (omega arith) | inr a ↦ outside (omega arith) ]
-    ]
-  ]
-] where
-  inside : from ≤ m → m ≤ last → at m after ≡ mark_with from last first before m
-  inside a b = marked.here m a (omega arith)
-      ∙ sym (ap (λ c. cond c (Some first) (at m before))
-      (and_from (nat_le from m) (nat_le m last) (le-leb from m a) (le-leb m last b)))
-
-  outside : last < m → at m after ≡ mark_with from last first before m
-  outside a = marked.above m (omega arith)
-      ∙ sym (ap (λ c. cond c (Some first) (at m before))
-      (false_from_ne_true (nat_le from m && nat_le m last)
-      (λ h. let k : m ≤ last = leb-true m last (and_parts (nat_le from m) (nat_le m last) h).1 in omega arith)))
-
 module _ (facts : ℕ → Option Fact) where
   -- a mark spread over all numbers that are linked
   pub spread-all : (ts n last first : ℕ) (before after : List (ℕ × ℕ)) → IsReach facts ts n last →

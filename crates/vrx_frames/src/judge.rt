@@ -10,57 +10,11 @@ ghost use Rattle.vrx_window.specs.Window.{at};
 ghost use Rattle.vrx_frames.specs.Judging.{AreMedia, span_summary, octets_of, says_key};
 ghost use Rattle.vrx_frames.specs.Parts.{is_media, part_at, part_of, parts_from};
 
+use crate::part::part_at;
 use crate::search::Span;
-use vrx_codec::{Codec, Join, Part, Place, Run};
-use vrx_num::limits::{MOST_OCTETS, WINDOW};
-use vrx_rtp::read;
+use vrx_codec::{BEGINNING, Codec, Place, Run};
+use vrx_num::limits::WINDOW;
 use vrx_window::{Held, Window};
-
-/// Joining begins with no unit and no octets.
-const BEGINNING: Join = Join {
-    unit: None,
-    octets: 0,
-};
-
-/// What a payload says. It reads.
-fn part_in<'a, C: Codec>(payload: &'a [u8]) -> Part<'a>
-    requires { IsOk (C.meaning.read payload.now) }
-    ensures part { C.meaning.read payload.now ≡ Ok (view result) }
-    ensures read { IsPartRead C.meaning (view result) }
-    ensures body { length result.body.now ≤ length payload.now }
-{
-    match C::read_part(payload) {
-        Ok(part) => part,
-        Err(_) => unreachable!(),
-    }
-}
-
-/// What the payload of a media packet's text says. It reads.
-fn part_of<'a, C: Codec>(text: &'a [u8]) -> Part<'a>
-    requires { is_some (part_of C.meaning (Media text.now)) ≡ true }
-    ensures part { part_of C.meaning (Media text.now) ≡ Some (view result) }
-    ensures read { IsPartRead C.meaning (view result) }
-    ensures body { length result.body.now ≤ length text.now }
-{
-    match read(text) {
-        Ok(packet) => part_in::<C>(packet.payload),
-        Err(_) => unreachable!(),
-    }
-}
-
-/// What the payload of a held media packet says.
-fn part_at<C: Codec>(window: &Window, n: u64) -> Part<'_>
-    requires sound { AreSound C.meaning window.now.packets }
-    requires media { is_media (at n window.now.packets) ≡ true }
-    ensures part { part_at C.meaning (contents_of window.now).packets n ≡ Some (view result) }
-    ensures read { IsPartRead C.meaning (view result) }
-    ensures body { length result.body.now ≤ MOST_OCTETS }
-{
-    match window.held(n) {
-        Some(Held::Media { text, .. }) => part_of::<C>(text.as_slice()),
-        _ => unreachable!(),
-    }
-}
 
 /// Whether a held media packet makes its frame a keyframe by itself.
 fn key_at<C: Codec>(window: &Window, n: u64) -> bool

@@ -2,7 +2,8 @@
 //! RFC 6184 5.1).
 //!
 //! [`Runs::completed`] is told each number that becomes available, and answers the runs that stand from then on.
-//! `specs/IsRun.antt` says what a run is, and `specs/Completed.antt` what a call answers.
+//! `specs/IsRun.antt` says what a run is, and `specs/Completed.antt` what a call answers. [`part_at`] is the part of a
+//! frame that a held packet is.
 #![tactic(auto)]
 
 mod arrival;
@@ -10,6 +11,7 @@ mod judge;
 mod keep;
 mod laws;
 mod mark;
+mod part;
 mod runs;
 mod search;
 mod shape;
@@ -17,5 +19,6 @@ mod shape;
 mod tests;
 
 pub use laws::{runs_apart, runs_are, runs_rise};
+pub use part::part_at;
 pub use runs::Runs;
 pub use shape::Shape;

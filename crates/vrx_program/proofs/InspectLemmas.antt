@@ -45,9 +45,6 @@ unfolding is_head
 head-short line short =
     ap (λ b. cond b false (has_right_settings (settings_in line))) (le-ltb longest_line (length line) short)
 
-pub inspect-refusal : (line : List ℕ) → is_head line ≡ false → IsRefused inspection_outcome line errors.Settings
-inspect-refusal line wrong capture others lines = ap inspected_lines lines ∙ ap (λ b. inspected_from b others) wrong
-
 no_head : (lines : List (List ℕ)) → HasNoHead lines → inspected_lines lines ≡ refusal errors.Settings
 no_head [] none = refl
 no_head (line ∷ lines) long = ap (λ b. inspected_from b lines) (head-long line long)

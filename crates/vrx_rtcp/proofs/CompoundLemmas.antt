@@ -225,9 +225,6 @@ pub record Begins (datagram : List ℕ) (place number : ℕ) : Type 0 where
   pub reaches : length (compound_octets packets) ≡ place
   pub counted : length packets ≡ number
 
-pub begins_empty : (datagram : List ℕ) → Begins datagram 0 0
-begins_empty datagram = record { packets = []; spelled = refl; each = tt; reaches = refl; counted = refl }
-
 all_and_one : (packets : List SpelledPacket) (p : SpelledPacket) → ArePackets packets → IsPacket p.octets p.message →
     ArePackets (packets ++ p ∷ [])
 all_and_one [] p each is = (is, tt)

@@ -59,9 +59,6 @@ IsBytes-octets octets are i =
 pub IsBytes-drop : (n : ℕ) (bytes : List ℕ) → IsBytes bytes → IsBytes (drop n bytes)
 IsBytes-drop n bytes h i = rw get_or-drop (h (n + i))
 
-pub IsBytes-rest : (b : ℕ) (bytes : List ℕ) → IsBytes (b ∷ bytes) → IsBytes bytes
-IsBytes-rest b bytes h i = h (suc i)
-
 -- the packet of these parts
 abbrev pub made : Header → List ℕ → Option HeaderExtension → List ℕ × ℕ → Packet
 made header csrc extension ended = record {

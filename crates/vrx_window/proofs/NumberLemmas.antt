@@ -28,12 +28,6 @@ pub same_slot : (newest n m : ℕ) → in_window newest n ≡ true → in_window
     n ≡ m
 same_slot newest n m a b same = grind (arith, common_steps)
 
--- the same of a window that has a newest number, if it has one
-pub same_place : (newest : Option ℕ) (n m : ℕ) → is_inside newest n ≡ true → is_inside newest m ≡ true
-    → n % WINDOW ≡ m % WINDOW → n ≡ m
-same_place None n m a b same = absurd (true≢false (sym a))
-same_place (Some newest) n m a b same = same_slot newest n m a b same
-
 -- a number that isn't too old is in the window once it is placed
 pub inside_with : (newest : Option ℕ) (n : ℕ) → is_too_old newest n ≡ false
     → in_window (newest_with newest n) n ≡ true

@@ -24,10 +24,6 @@ among-from ns n is = let p : (k : ℕ) × Contains ns k × ((n == k) ≡ true) =
 pub among-to : (ns : List ℕ) (n : ℕ) → Contains ns n → is_among ns n ≡ true
 among-to ns n c = list_any-to (λ k. n == k) ns n c (eq-eqb n n refl)
 
--- what isn't in the list isn't among them
-pub among-not : (ns : List ℕ) (n : ℕ) → (Contains ns n → ⊥) → is_among ns n ≡ false
-among-not ns n none = false_from_ne_true (is_among ns n) (λ is. none (among-from ns n is))
-
 -- which numbers follow one
 pub from-bounds : (n k m : ℕ) → Contains (numbers_from n k) m → (n ≤ m) × (m < n + k)
 from-bounds n zero m c = absurd (Contains-empty m c)

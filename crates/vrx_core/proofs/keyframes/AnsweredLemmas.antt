@@ -27,11 +27,6 @@ use Rattle.vrx_core.proofs.machine.PulledLemmas.{pulled_rise}
 use Rattle.vrx_core.proofs.machine.TestLemmas.{same_tests}
 use Rattle.vrx_core.proofs.relation.ListLemmas.{Contains-either, Contains-empty, Contains-head, Contains-tail, Rises, rises-filter, rises-from, rises-map}
 
--- no number, and then another
-pub later-none : (o : Option ℕ) → later_of o None ≡ o
-later-none None = refl
-later-none (Some n) = refl
-
 -- one number more, before the greater of two is taken or after
 pub later-greater : (a : Option ℕ) (n : ℕ) (b : Option ℕ) → later_of (greater a n) b ≡ greater (later_of a b) n
 later-greater None n b = refl
@@ -88,18 +83,6 @@ greatest-from (x ∷ xs) m is = by (greatest_of xs) refl is (λ k e. greatest-fr
   }
   by (Some k) some e rest = let same : max k x ≡ m = cc in greatest-cons x xs k m (rest k some) same
 
--- and back
-pub greatest-to : (xs : List ℕ) (m : ℕ) → IsGreatest xs m → greatest_of xs ≡ Some m
-greatest-to xs m is = by (greatest_of xs) refl where
-  by : (o : Option ℕ) → greatest_of xs ≡ o → o ≡ Some m
-  by None none = absurd (Contains-empty m (subst (λ ys. Contains ys m) (greatest-none xs none) is.among))
-  by (Some k) some =
-      let other : IsGreatest xs k = greatest-from xs k some in
-      let upto : k ≤ m = is.most k other.among in
-      let from : m ≤ k = other.most m is.among in
-      let same : k ≡ m = omega arith in
-      ap (λ (x : ℕ). Some x) same
-
 -- a number below the greatest changes nothing
 greater-below : (o : Option ℕ) (x : ℕ) → IsSomeAnd o (λ m. x ≤ m) → greater o x ≡ o
 greater-below None x h = absurd h
@@ -155,19 +138,6 @@ asks-rise (ask ∷ asks) h =
     let p : (list_all (λ (other : Ask). nat_lt ask.number other.number) asks ≡ true) × (rises asks ≡ true) =
     and_parts (list_all (λ (other : Ask). nat_lt ask.number other.number) asks) (rises asks) h in
     (all-above (λ (other : Ask). other.number) ask.number asks p.0, asks-rise asks p.1)
-
--- so the last of the numbers that a tick gives up is the greatest
-pub given-up-greatest : (now interval : ℕ) (asks : List Ask) → rises asks ≡ true →
-    greatest_of (given_up_numbers now interval asks) ≡ last_of (given_up_numbers now interval asks)
-given-up-greatest now interval asks h =
-    greatest-last (given_up_numbers now interval asks)
-    (rises-map (λ (ask : Ask). ask.number) (λ (n : ℕ). n) (λ (ask : Ask). ask.number) (λ ask. refl)
-    (filter (is_given_up now interval) asks)
-    (rises-filter (λ (ask : Ask). ask.number) (is_given_up now interval) asks (asks-rise asks h)))
-
--- and so of numbers in strict order
-pub greatest-sorted : (xs : List ℕ) → IsStrictlySortedBy nat_cmp xs → greatest_of xs ≡ last_of xs
-greatest-sorted xs sorted = greatest-last xs (rises-from (λ (n : ℕ). n) xs sorted)
 
 -- a test that holds if the other does
 or-first : (a b : Bool) → (b ≡ true → a ≡ true) → (a || b) ≡ a
@@ -330,18 +300,6 @@ open-up standing pulled n m h upto =
     up-each (option_map_or (λ key. nat_lt n key) standing false) (option_map_or (λ key. nat_lt m key) standing false)
     (option_map_or (λ key. nat_lt n key) pulled false) (option_map_or (λ key. nat_lt m key) pulled false)
     (λ g. key-down standing n m g upto) (λ g. key-down pulled n m g upto) h
-
--- a number below one that is answered is answered
-pub answered-down : (s : Snapshot) → Falls s.pulled → (n m : ℕ) → is_answered s m ≡ true → n ≤ m →
-    is_answered s n ≡ true
-answered-down s falls n m h upto = elim (or_cases (has_key_beyond s.standing m) (has_key_beyond s.pulled m) h) [
-  | inl here ↦ ap (λ b. b || has_key_beyond s.pulled n)
-      (standing-beyond s.standing n ∙ key-down (key_standing s) n m (sym (standing-beyond s.standing m) ∙ here) upto)
-  | inr here ↦ or-second (has_key_beyond s.standing n) (has_key_beyond s.pulled n) (λ g. below here) ∙ below here
-] where
-  below : has_key_beyond s.pulled m ≡ true → has_key_beyond s.pulled n ≡ true
-  below here = pulled-beyond s.pulled n falls
-      ∙ key-down (last_key s.pulled) n m (sym (pulled-beyond s.pulled m falls) ∙ here) upto
 
 -- some of these numbers isn't answered, if the greatest isn't
 pub lost-open : (s : Snapshot) → Falls s.pulled → (ns : List ℕ) →

@@ -77,17 +77,6 @@ text-upto octets p is =
     let same : length octets ≡ length (octets_with is.filler p) = ap length is.spelled in
     omega arith
 
--- octets are RTCP if their text is: the second octet is the same
-pub text-rtcp : (octets : List ℕ) (p : Packet) → IsPacket octets p → IsRtcp (packet_text p) → IsRtcp octets
-text-rtcp octets p is r =
-    subst IsRtcp (sym is.spelled) (record { has_type = omega arith; at_least = r.at_least; at_most = r.at_most })
-
--- and back
-pub rtcp-text : (octets : List ℕ) (p : Packet) → IsPacket octets p → IsRtcp octets → IsRtcp (packet_text p)
-rtcp-text octets p is rtcp =
-    let r : IsRtcp (octets_with is.filler p) = subst IsRtcp is.spelled rtcp in
-    record { has_type = omega arith; at_least = r.at_least; at_most = r.at_most }
-
 -- the first of two lists of octets
 pub first-octets : (xs ys : List ℕ) → AreOctets (xs ++ ys) → AreOctets xs
 first-octets xs ys all =

@@ -60,22 +60,6 @@ kept-new codec parts events window known frames last front = record {
   empty : packets_of parts ≡ []
   empty = ap (λ (w : Contents Held). contents w.packets) window
 
--- an event that only counts
-pub kept-after_counting : (codec : Meaning) (parts : Assembly) (moment : ℕ) → IsKept codec parts →
-    parts.events + 1 ≤ MOST_EVENTS → IsKept codec (after_counting parts moment)
-kept-after_counting codec parts moment kept few = record {
-  few = few;
-  reach = reaches-more parts.events (parts.events + 1) parts.window.newest (omega arith) kept.reach;
-  taken = kept.taken;
-  arrivals = kept.arrivals;
-  newest = kept.newest;
-  passed = kept.passed;
-  front =
-      record { both = kept.front.both; ahead = kept.front.ahead; within = kept.front.within; over = kept.front.over };
-  behind = kept.behind;
-  frames = kept.frames;
-}
-
 module _ (are : RunsAre) (rise : RunsRise) where
   -- a packet was taken
   pub kept-taken : (codec : Meaning) (before after : Assembly) (n : ℕ) (held : Held)

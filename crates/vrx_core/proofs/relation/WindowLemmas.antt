@@ -54,11 +54,6 @@ pub newest-number : (newest : Option ℕ) (n : ℕ) → n ≤ newest_with newest
 newest-number None n = omega arith
 newest-number (Some m) n = omega arith
 
--- and the newest number before isn't above it
-pub newest-before : (newest : Option ℕ) (n : ℕ) → IfSome newest (λ m. m ≤ newest_with newest n)
-newest-before None n = tt
-newest-before (Some m) n = omega arith
-
 -- a number inside the window isn't above the newest number once one more is placed
 pub inside-upto : (newest : Option ℕ) (n m : ℕ) → is_inside newest m ≡ true → m ≤ newest_with newest n
 inside-upto None n m h = absurd (true≢false (sym h))

@@ -66,10 +66,6 @@ fresh-by false true there young alive absent = absurd (true≢false alive)
 fresh-by false false true young alive absent = absurd (true≢false absent)
 fresh-by false false false young alive absent = refl
 
--- nothing is missing
-pub fresh-none : (window : Contents Held) → AreFresh window []
-fresh-none window = fresh-all window [] (λ a c. absurd (Contains-empty a c))
-
 -- what is fresh is below the newest number
 pub below-fresh : (window : Contents Held) (asks : List Ask) → AreFresh window asks → AreBelow window.newest asks
 below-fresh window asks fresh =

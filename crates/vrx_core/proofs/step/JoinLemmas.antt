@@ -119,14 +119,6 @@ pub parts-next : (codec : Meaning) (packets : Packets) (n count more : ℕ) (par
 parts-next codec packets n count more part is same =
     ap (λ k. parts_from codec packets n k) same ∙ ap (λ o. cons_option o (parts_from codec packets (n + 1) more)) is
 
--- what a sound media packet says
-pub says-soundly : (codec : Meaning) (packets : List (ℕ × Held)) (n : ℕ) (text : List ℕ) (marker : Bool) (ts : ℕ)
-    (start : Start) (key : Bool) (layers : Option Place) → AreSound codec packets →
-    at n packets ≡ Some (helds.Media text marker ts start key layers) →
-    SaysItsText codec text marker ts start key layers
-says-soundly codec packets n text marker ts start key layers sound is =
-    sound n (helds.Media text marker ts start key layers) is
-
 -- the part of its text
 pub part_of-text : (codec : Meaning) (text : List ℕ) (packet : Packet) (part : Part) → read text ≡ Some packet →
     codec.read packet.payload ≡ Ok part → part_of codec (Media text) ≡ Some part
@@ -136,14 +128,6 @@ part_of-text codec text packet part reads part_reads =
     ∙ ap (λ r. option_map (λ (p : Piece). p.part) (result_ok r >>= λ x. Some (made packet x))) part_reads where
       made : Packet → Part → Piece
       made q x = record { number = 0; packet = q; part = x }
-
--- the part of a number
-pub part_at-text : (codec : Meaning) (packets : List (ℕ × Held)) (n : ℕ) (held : Held) (text : List ℕ) (part : Part) →
-    at n packets ≡ Some held → content_of held ≡ Media text → part_of codec (Media text) ≡ Some part →
-    part_at codec (contents packets) n ≡ Some part
-part_at-text codec packets n held text part is content part_is =
-    ap (option_and_then (part_of codec))
-    (at_map content_of n packets ∙ ap (option_map content_of) is ∙ ap Some content) ∙ part_is
 
 -- no part is left
 parts-none : (codec : Meaning) (packets : Packets) (n count : ℕ) → count ≡ 0 → parts_from codec packets n count ≡ []

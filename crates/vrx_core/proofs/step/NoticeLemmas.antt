@@ -15,10 +15,6 @@ use Rattle.vrx_core.specs.inside.Wants.{with_all_missing}
 pub below-first : (n below : ℕ) → n < below → numbers_below n below ≡ n ∷ numbers_below (n + 1) below
 below-first n below less = ap (numbers_from n) (let e : below - n ≡ suc (below - (n + 1)) = omega arith in e)
 
--- and at the end there is none
-pub below-end : (n below : ℕ) → below ≤ n → numbers_below n below ≡ []
-below-end n below upto = ap (numbers_from n) (let e : below - n ≡ 0 = omega arith in e)
-
 pub noticed-asks : (now n below : ℕ) (asks : List Ask) → n < below →
     with_all_missing now (numbers_below (n + 1) below) (with_missing n now asks) ≡ with_all_missing now
     (numbers_below n below) asks
@@ -43,9 +39,3 @@ pub near-more : (n now last : ℕ) (asks : List Ask) → last + 1 < n + WINDOW �
     is_near last (with_missing n now asks) ≡ true
 near-more n now last [] room near = lt-ltb (last + 1) (n + WINDOW) room
 near-more n now last (ask ∷ asks) room near = near
-
--- a number that isn't beyond the last of those noticed is near
-pub near-less : (n last : ℕ) (asks : List Ask) → n ≤ last → is_near last asks ≡ true → is_near n asks ≡ true
-near-less n last [] upto near = refl
-near-less n last (ask ∷ asks) upto near = let less : last + 1 < ask.number + WINDOW =
-    ltb-true (last + 1) (ask.number + WINDOW) near in lt-ltb (n + 1) (ask.number + WINDOW) (omega arith)

@@ -4,7 +4,7 @@ use Rattle.vrx_window.specs.Content.{Media}
 use Rattle.vrx_window.specs.declared.held.Held.TheVariants as helds
 use Rattle.vrx_frames.specs.Parts.{part_of}
 use Rattle.vrx_frames.proofs.JoinLemmas.{says-soundly, part_of-text, part_at-text}
-use Rattle.vrx_frames.proofs.judge.part_at.Goals as goal
+use Rattle.vrx_frames.proofs.part.part_at.Goals as goal
 
 pub part_of-requires : goal.part_of-requires
 part_of-requires g c =
