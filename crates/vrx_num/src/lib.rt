@@ -4,8 +4,8 @@
 //! far, and `extend` finds the one number that a wire number means beside it: equal modulo 65,536, and
 //! nearer than 32,768. Just half of the space away no number is nearer, and `extend` gives none.
 //!
-//! [`Pictures`] does the same for the PictureID of VP8, of 15 bits (RFC 7741 4.2): it always has an answer, and half of
-//! the space away it answers the older picture. [`next8`] and [`before8`] step an index of 8 bits.
+//! [`Pictures`] does the same for the PictureID of VP8, of 15 bits (RFC 7741 4.2): it always has an answer, and half
+//! of the space away it answers the older picture. [`next8`] and [`before8`] step an index of 8 bits.
 //!
 //! [`Numbers`] is a list of such numbers, and [`NoMemory`] the error of what fails only for want of memory.
 //!

@@ -48,7 +48,7 @@ impl Pictures {
     pub fn extend(&self, wire: u16) -> u64
         requires below { wire < PICTURES }
         ensures value { result ≡ extended_picture self.now wire }
-        ensures picture { MatchOption self.now (result ≡ wire + PICTURES) (λ newest. IsPictureNear newest wire result) }
+        ensures near { MatchOption self.now (result ≡ wire + PICTURES) (λ newest. IsPictureNear newest wire result) }
     {
         let Some(newest) = self.newest else {
             return u64::from(wire) + PICTURES;
