@@ -21,9 +21,9 @@ extended_picture (Some newest) wire =
     let ahead : ℕ = picture_ahead newest wire in
     if nat_lt ahead HALF_PICTURES then newest + ahead else newest - (PICTURES - ahead)
 
--- a picture that can be the newest: none that is near it is below 0, and none comes near 2 ^ 64
+-- a picture that can be the newest: each that is near it can be taken, and none comes near 2 ^ 64
 pub record IsNewestPicture (n : ℕ) : Type 0 where
-  pub at_least : HALF_PICTURES ≤ n
+  pub at_least : PICTURES ≤ n
   pub at_most : n ≤ 2 ^ 62
 
 -- a wire value means one picture at most

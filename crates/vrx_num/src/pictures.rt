@@ -48,6 +48,7 @@ impl Pictures {
     pub fn extend(&self, wire: u16) -> u64
         requires below { wire < PICTURES }
         ensures value { result ≡ extended_picture self.now wire }
+        ensures at_least { HALF_PICTURES ≤ result }
         ensures near { MatchOption self.now (result ≡ wire + PICTURES) (λ newest. IsPictureNear newest wire result) }
     {
         let Some(newest) = self.newest else {
@@ -57,9 +58,11 @@ impl Pictures {
         half_behind + (u64::from(wire) + PICTURES - half_behind % PICTURES) % PICTURES
     }
 
-    /// Takes the picture `n`: the newest is now the greater of the newest so far, if there is one, and `n`.
+    /// Takes the picture `n`: the newest is now the greater of the newest so far, if there is one, and `n`. The first
+    /// one is at least 32,768. Each that `extend` answers may be taken, if it isn't above 2^62.
     pub fn accept(&mut self, n: u64)
         requires at_least { HALF_PICTURES ≤ n }
+        requires first { self.old ≡ None → PICTURES ≤ n }
         requires at_most { n ≤ 2 ^ 62 }
         ensures { self.new ≡ greater self.old n }
     {
