@@ -1,0 +1,59 @@
+//! The XOR of texts (RFC 5109 8.1, 8.2).
+
+ghost use Rattle.std.specs.Prelude.{◌≡◌, ℕ, ◌+◌, ◌<◌, ◌≤◌, ◌^◌, bit_xor, if◌then◌else◌, length, slice_index};
+ghost use Rattle.vrx_fec.specs.Mask.{is_named};
+ghost use Rattle.vrx_fec.specs.Parity.{fields_of, mask_at};
+
+use crate::mask::is_named;
+use crate::span::Span;
+use vrx_num::slices::from;
+
+/// Puts the XOR of each octet with the other's octet at the same place into it. An octet that the other hasn't counts
+/// as 0: what is longer is left as it is.
+pub fn xor_into(target: &mut [u8], other: &[u8])
+    ensures { (k : ℕ) → k < length target.old →
+        slice_index target.new k ≡ bit_xor (slice_index target.old k) (slice_index other.now k) }
+{
+    let len = target.len().min(other.len());
+    for k in 0..len {
+        target[k] ^= other[k];
+    }
+}
+
+/// The fields of a text that a FEC header protects: P, X and CC; M and PT; the timestamp; how many octets come after
+/// the first twelve.
+pub(crate) fn fields_of(text: &[u8]) -> [u8; 8]
+    requires at_least { 12 ≤ length text.now }
+    requires at_most { length text.now ≤ 65547 }
+    ensures { result ≡ fields_of text.now }
+{
+    let [length1, length0] = ((text.len() - 12) as u16).to_be_bytes();
+    [
+        text[0] % 64,
+        text[1],
+        text[4],
+        text[5],
+        text[6],
+        text[7],
+        length1,
+        length0,
+    ]
+}
+
+/// Adds the octets of a packet at this offset to those of levels, level after level. Both are those after the first
+/// twelve.
+pub(crate) fn add_octets(body: &mut [u8], spans: &[Span], long: bool, offset: u8, octets: &[u8])
+    ensures { (k : ℕ) → k < length body.old → slice_index body.new k ≡
+        bit_xor (slice_index body.old k)
+        (if is_named long (mask_at spans.now k) offset then slice_index octets.now k else 0) }
+{
+    let [span, later @ ..] = spans else {
+        return;
+    };
+    let size = span.size.min(body.len());
+    let (front, rest) = body.split_at_mut(size);
+    if is_named(long, span.mask, u16::from(offset)) {
+        xor_into(front, octets);
+    }
+    add_octets(rest, later, long, offset, from(octets, size));
+}

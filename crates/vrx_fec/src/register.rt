@@ -1,0 +1,137 @@
+//! Rebuilding a lost packet (RFC 5109 9.1, 9.2).
+
+ghost use Rattle.std.specs.Prelude.{◌≡◌, ◌↔◌, ℕ, ◌+◌, ◌-◌, ◌<◌, ◌≤◌, [], ◌∷◌, length, Ok, Err, IfOk, nat_le};
+ghost use Rattle.vrx_fec.specs.Parity.{Texts, recovery};
+ghost use Rattle.vrx_fec.specs.Rebuilt.{IsOf, covered, covered_by, rebuilt, rebuilt_length};
+ghost use Rattle.vrx_fec.specs.View.{view, view_rebuilt};
+
+use crate::fec::Fec;
+use crate::mask::is_named;
+use crate::parity::{add_octets, fields_of, xor_into};
+use crate::span::{Span, spans_of};
+use std::alloc::Global;
+use std::marker::Model;
+use vrx_num::NoMemory;
+use vrx_num::slices::from;
+
+/// A rebuilt packet has at most so many octets after its first twelve.
+pub(crate) const MOST_REBUILT: usize = 9_204;
+
+/// Why a packet isn't rebuilt, in the order in which it is tested.
+#[derive(Clone, Copy, Debug, PartialEq, Eq, thiserror::Error)]
+pub enum RecoverFault {
+    /// It would have more than 9,204 octets after its first twelve.
+    #[error("the rebuilt length is too great")]
+    BadLength,
+    /// It has more octets than the levels that name it protect.
+    #[error("the levels don't cover the packet")]
+    NotCovered,
+}
+
+/// The XOR of a FEC payload and of texts that were added to it.
+///
+/// Contracts see the fields and the octets that it has added up. Its memory is taken once.
+#[derive(Debug, Drop)]
+pub struct Register {
+    /// The fields that the FEC header protects.
+    fields: [u8; 8],
+    /// Room for the first twelve octets of the rebuilt packet, and then the octets of all levels.
+    text: Vec<u8>,
+}
+
+impl Model for Register {
+    ghost use Rattle.std.specs.Prelude.{◌≤◌, drop, length};
+    ghost use Rattle.vrx_fec.specs.Rebuilt.{Sums};
+
+    ghost Value = { Sums };
+
+    ghost view = { λ a. record { fields = a.fields; body = drop 12 a.text.items } };
+
+    ghost invariant = { λ a. 12 ≤ length a.text.items };
+}
+
+impl Register {
+    /// A register of the payload, to which nothing was added. Only this call takes memory.
+    pub fn start(alloc: Global, fec: &Fec<'_>) -> Result<Register, NoMemory>
+        ensures starts { IfOk result (λ register. IsOf register (view fec.now) []) }
+    {
+        let size = fec.levels.as_slice().iter().fold(
+            12,
+            |size: usize, level| size.saturating_add(level.octets.len()),
+        );
+        let mut text = Vec::with_capacity(alloc, size)?;
+        text.extend_from_slice(&[0; 12])?;
+        for level in fec.levels.as_slice() {
+            text.extend_from_slice(level.octets)?;
+        }
+        Ok(Register {
+            fields: recovery_of(&fec.head),
+            text,
+        })
+    }
+
+    /// Adds the text of the packet at this offset from SN base.
+    pub fn add(&mut self, fec: &Fec<'_>, offset: u8, text: &[u8])
+        requires at_least { 12 ≤ length text.now }
+        requires at_most { length text.now ≤ 65547 }
+        ensures adds { (texts : Texts) → IsOf self.old (view fec.now) texts →
+            IsOf self.new (view fec.now) ((offset, text.now) ∷ texts) }
+    {
+        xor_into(&mut self.fields, &fields_of(text));
+        let spans = spans_of(&fec.levels);
+        let (_room, body) = self.text.as_mut_slice().split_at_mut(12);
+        add_octets(body, spans.as_slice(), fec.long, offset, from(text, 12));
+    }
+
+    /// The packet that is missing, at this offset from SN base and of this SSRC, once all others were added.
+    pub fn finish(self, fec: &Fec<'_>, missing: u8, ssrc: u32) -> Result<Vec<u8>, RecoverFault>
+        ensures rebuilds { (texts : Texts) → IsOf self (view fec.now) texts →
+            view_rebuilt result ≡ rebuilt (view fec.now) texts missing ssrc }
+    {
+        let [f0, f1, f2, f3, f4, f5, f6, f7] = self.fields;
+        let length = u16::from_be_bytes([f6, f7]);
+        if usize::from(length) > MOST_REBUILT {
+            return Err(RecoverFault::BadLength);
+        }
+        let spans = spans_of(&fec.levels);
+        if !is_covered(usize::from(length), spans.as_slice(), fec.long, missing) {
+            return Err(RecoverFault::NotCovered);
+        }
+        let [n1, n0] = fec.base.wrapping_add(u16::from(missing)).to_be_bytes();
+        let [s3, s2, s1, s0] = ssrc.to_be_bytes();
+        let header = [128 + f0 % 64, f1, n1, n0, f2, f3, f4, f5, s3, s2, s1, s0];
+        let mut text = self.text;
+        text.truncate(12 + usize::from(length));
+        text.as_mut_slice()[..12].copy_from_slice(&header);
+        Ok(text)
+    }
+}
+
+/// The recovery fields of a FEC header.
+fn recovery_of(head: &[u8; 10]) -> [u8; 8]
+    ensures { result ≡ recovery head.now }
+{
+    [
+        head[0] % 64,
+        head[1],
+        head[4],
+        head[5],
+        head[6],
+        head[7],
+        head[8],
+        head[9],
+    ]
+}
+
+/// Whether so many octets of the packet at this offset are covered.
+fn is_covered(length: usize, spans: &[Span], long: bool, offset: u8) -> bool
+    ensures { result ≡ nat_le length (covered_by long spans.now offset) }
+{
+    let mut left = length;
+    for span in spans {
+        if is_named(long, span.mask, u16::from(offset)) {
+            left = left.saturating_sub(span.size);
+        }
+    }
+    left == 0
+}
