@@ -40,7 +40,7 @@ abbrev pub is_nested : Option ℕ → ℕ → Bool
 is_nested None mask = true
 is_nested (Some before) mask = is_within mask before
 
--- the same of a level at this offset
+-- the same of a level that was read at this offset
 abbrev pub nested_at : Option ℕ → ℕ → Level × List ℕ → Result (Level × List ℕ) FecFault
 nested_at before offset read =
     if is_nested before read.0.mask then Ok read else Err (fault NotNested offset)
@@ -49,13 +49,16 @@ nested_at before offset read =
 abbrev pub level_size : Bool → Level → ℕ
 level_size long level = (if long then 8 else 4) + length level.octets
 
+-- the level at this offset, and what is after it, if its mask is within the one before
+abbrev pub next_level_at : Bool → Option ℕ → ℕ → List ℕ → Result (Level × List ℕ) FecFault
+next_level_at long before offset octets = level_at long offset octets >>= nested_at before offset
+
 -- The levels from this offset on, of which there may be so many more; before them stands a level of this mask, or none.
 abbrev pub levels_at : ℕ → Bool → Option ℕ → ℕ → List ℕ → Result (List Level) FecFault
 levels_at more long before offset [] = Ok []
 levels_at zero long before offset (first ∷ octets) = Err (fault ManyLevels offset)
 levels_at (suc more) long before offset (first ∷ octets) = do
-  at ← level_at long offset (first ∷ octets)
-  read ← nested_at before offset at
+  read ← next_level_at long before offset (first ∷ octets)
   levels ← levels_at more long (Some read.0.mask) (offset + level_size long read.0) read.1
   Ok (read.0 ∷ levels)
 

@@ -29,6 +29,6 @@ abbrev pub view_result : Result Fec FecFault → Result Payload FecFault
 view_result result = result_by view result
 
 -- the octets that were rebuilt, or the fault
-abbrev pub view_rebuilt : Result (Vec ℕ) RecoverFault → Result (List ℕ) RecoverFault
+abbrev pub view_rebuilt : {Z : Type 0} → Result (Vec ℕ Z) RecoverFault → Result (List ℕ) RecoverFault
 view_rebuilt (Ok text) = Ok text.items
 view_rebuilt (Err e) = Err e

@@ -1,9 +1,9 @@
 //! From octets to a FEC payload (RFC 5109 7.3, 7.4).
 
-ghost use Rattle.std.specs.Prelude.{◌≡◌, ℕ, Some, None, Ok, IfOk, IsOkAnd, map};
+ghost use Rattle.std.specs.Prelude.{◌≡◌, ℕ, ◌+◌, length, Some, None, Ok, IfOk, IsOkAnd, map};
 ghost use Rattle.std.specs.Option.{option_map};
-ghost use Rattle.vrx_fec.specs.Payload.{Payload, IsPayload, distance, first_mask, masks};
-ghost use Rattle.vrx_fec.specs.Reading.{level_header_at, level_at, is_nested, levels_at, head_at, protecting, reading};
+ghost use Rattle.vrx_fec.specs.Payload.{Payload, IsPayload, distance, first_mask, is_ahead, masks};
+ghost use Rattle.vrx_fec.specs.Reading.{level_header_at, level_at, level_size, is_nested, next_level_at, levels_at, head_at, protecting, reading};
 ghost use Rattle.vrx_fec.specs.View.{view, view_level, view_result, result_by};
 
 use crate::fault::{FecFault, FecFaultKind};
@@ -58,6 +58,26 @@ fn is_nested(before: Option<u64>, mask: u64) -> bool
     }
 }
 
+/// The same, if the level's mask is within the one before it.
+fn next_level_of(
+    long: bool,
+    before: Option<u64>,
+    at: usize,
+    octets: &[u8],
+) -> Result<(Level<'_>, &[u8]), FecFault>
+    ensures reads { result_by (λ x. (view_level x.0, x.1.now)) result ≡ next_level_at long before at octets.now }
+    ensures leaves { IfOk result (λ x. length octets.now ≡ level_size long (view_level x.0) + length x.1.now) }
+{
+    let (level, rest) = level_of(long, at, octets)?;
+    if !is_nested(before, level.mask) {
+        return Err(FecFault {
+            kind: FecFaultKind::NotNested,
+            at,
+        });
+    }
+    Ok((level, rest))
+}
+
 /// The levels to the end of the payload. The octets stand at octet `HEAD` of it.
 fn levels_of(long: bool, octets: &[u8]) -> Result<ArrayVec<Level<'_>, 8>, FecFault>
     ensures { result_by (λ x. map view_level x.items) result ≡ levels_at 8 long None HEAD octets.now }
@@ -73,17 +93,15 @@ fn levels_of(long: bool, octets: &[u8]) -> Result<ArrayVec<Level<'_>, 8>, FecFau
                 at,
             });
         }
-        let (level, after) = level_of(long, at, rest)?;
-        if !is_nested(before, level.mask) {
-            return Err(FecFault {
-                kind: FecFaultKind::NotNested,
-                at,
-            });
+        match next_level_of(long, before, at, rest) {
+            Ok((level, after)) => {
+                at += rest.len() - after.len();
+                before = Some(level.mask);
+                rest = after;
+                levels.push(level);
+            }
+            Err(fault) => return Err(fault),
         }
-        at += rest.len() - after.len();
-        before = Some(level.mask);
-        rest = after;
-        levels.push(level);
     }
     Ok(levels)
 }
@@ -119,25 +137,52 @@ fn distance(own: u16, base: u16) -> u16
     own.wrapping_sub(base)
 }
 
+/// Whether a number that the payload protects isn't before the packet's own.
+fn is_ahead(fec: &Fec<'_>, own: u16) -> bool
+    ensures { result ≡ is_ahead own (view fec.now) }
+{
+    let distance = distance(own, fec.base);
+    distance >= HALF_SPACE || names_from(fec.long, first_mask(fec), distance)
+}
+
 /// The payload, if it protects something, and only numbers before its own.
 fn protecting(fec: Fec<'_>, own: u16) -> Result<Fec<'_>, FecFault>
     ensures { view_result result ≡ protecting own (view fec.entry) }
 {
-    let mask = first_mask(&fec);
-    if mask == 0 {
+    if first_mask(&fec) == 0 {
         return Err(FecFault {
             kind: FecFaultKind::NoneProtected,
             at: HEAD,
         });
     }
-    let distance = distance(own, fec.base);
-    if distance >= HALF_SPACE || names_from(fec.long, mask, distance) {
+    if is_ahead(&fec, own) {
         return Err(FecFault {
             kind: FecFaultKind::AheadOfSelf,
             at: 2,
         });
     }
     Ok(fec)
+}
+
+/// The payload that the octets are, taken from the front.
+fn payload_of(payload: &[u8], own: u16) -> Result<Fec<'_>, FecFault>
+    ensures { view_result result ≡ reading payload.now own }
+{
+    let (head, rest) = head_of(payload)?;
+    let long = head[0] / 64 % 2 == 1;
+    let base = u16::from_be_bytes([head[2], head[3]]);
+    match levels_of(long, rest) {
+        Ok(levels) => protecting(
+            Fec {
+                base,
+                head,
+                long,
+                levels,
+            },
+            own,
+        ),
+        Err(fault) => Err(fault),
+    }
 }
 
 /// The FEC payload that the octets of the packet of this number are (RFC 5109 7.3, 7.4). It takes no memory.
@@ -151,17 +196,5 @@ pub fn read_fec(payload: &[u8], own: u16) -> Result<Fec<'_>, FecFault>
     ensures payload { IfOk result (λ fec. IsPayload payload.now own (view fec)) }
     ensures only { (p : Payload) → IsPayload payload.now own p → IsOkAnd result (λ fec. view fec ≡ p) }
 {
-    let (head, rest) = head_of(payload)?;
-    let long = head[0] / 64 % 2 == 1;
-    let base = u16::from_be_bytes([head[2], head[3]]);
-    let levels = levels_of(long, rest)?;
-    protecting(
-        Fec {
-            base,
-            head,
-            long,
-            levels,
-        },
-        own,
-    )
+    payload_of(payload, own)
 }

@@ -1,0 +1,5 @@
+-- FEC payloads on rows worked by hand; masks, the reading, the XOR, and what is rebuilt.
+mod MaskLemmas
+mod ReadingLemmas
+mod Rows
+mod SumLemmas

@@ -1,0 +1,2 @@
+-- The XOR at places of levels.
+use Rattle.std.proofs.Common.{◌≡◌, ℕ, refl}
