@@ -28,11 +28,11 @@ module _ (test : ℕ → Bool) (bound : ℕ) where
   below-not (suc count) first k from within above is =
       elim (cases_lt first k) [
         | inl later ↦
-        let rest : below (numbers_from (first + 1) count) ≡ false =
-        below-not count (first + 1) k (omega arith) (omega arith) above is in
-        grind (arith, common_steps)
+            let rest : below (numbers_from (first + 1) count) ≡ false =
+            below-not count (first + 1) k (omega arith) (omega arith) above is in
+            grind (arith, common_steps)
         | inr same ↦
-        let here : first ≡ k = omega arith in
-        let taken : test first ≡ true = rw here is in
-        grind (arith, common_steps)
+            let here : first ≡ k = omega arith in
+            let taken : test first ≡ true = rw here is in
+            grind (arith, common_steps)
       ]

@@ -21,12 +21,16 @@ rebuilt_octet p others k = bit_xor (octet_at k (body_of p.levels)) (xor_of_octet
 abbrev pub rebuilt_length : Payload → Texts → ℕ
 rebuilt_length p others = from_be_bytes w16 (rebuilt_field p others 6 ∷ rebuilt_field p others 7 ∷ [])
 
--- its first twelve octets: version 2, the number from SN base on, and the source's SSRC are known; the rest is rebuilt
+-- the first twelve octets of a packet of version 2, of these fields, and of this number and SSRC (RFC 3550 5.1)
+abbrev pub header_of : List ℕ → ℕ → ℕ → List ℕ
+header_of fields number ssrc =
+    (128 + octet_at 0 fields) ∷ octet_at 1 fields ∷ to_be_bytes w16 number
+    ++ octet_at 2 fields ∷ octet_at 3 fields ∷ octet_at 4 fields ∷ octet_at 5 fields ∷ to_be_bytes w32 ssrc
+
+-- its first twelve octets: the number counts from SN base, the SSRC is the source's, and the fields are rebuilt
 abbrev pub rebuilt_header : Payload → Texts → ℕ → ℕ → List ℕ
 rebuilt_header p others missing ssrc =
-    (128 + rebuilt_field p others 0) ∷ rebuilt_field p others 1 ∷ to_be_bytes w16 ((p.base + missing) % 2 ^ 16)
-    ++ rebuilt_field p others 2 ∷ rebuilt_field p others 3 ∷ rebuilt_field p others 4 ∷ rebuilt_field p others 5
-    ∷ to_be_bytes w32 ssrc
+    header_of (map (rebuilt_field p others) (numbers_from 0 8)) ((p.base + missing) % 2 ^ 16) ssrc
 
 -- the lost packet: the octets after the first twelve are as many as the rebuilt length says
 abbrev pub rebuilt_text : Payload → Texts → ℕ → ℕ → List ℕ

@@ -40,6 +40,16 @@ pub(crate) fn fields_of(text: &[u8]) -> [u8; 8]
     ]
 }
 
+/// The same, if it is to be added.
+fn xor_if(adds: bool, target: &mut [u8], other: &[u8])
+    ensures { (k : ℕ) → k < length target.old → slice_index target.new k ≡
+        bit_xor (slice_index target.old k) (if adds then slice_index other.now k else 0) }
+{
+    if adds {
+        xor_into(target, other);
+    }
+}
+
 /// Adds the octets of a packet at this offset to those of levels, level after level. Both are those after the first
 /// twelve.
 pub(crate) fn add_octets(body: &mut [u8], spans: &[Span], long: bool, offset: u8, octets: &[u8])
@@ -47,13 +57,12 @@ pub(crate) fn add_octets(body: &mut [u8], spans: &[Span], long: bool, offset: u8
         bit_xor (slice_index body.old k)
         (if is_named long (mask_at spans.now k) offset then slice_index octets.now k else 0) }
 {
-    let [span, later @ ..] = spans else {
+    if spans.is_empty() {
         return;
-    };
+    }
+    let span = spans[0];
     let size = span.size.min(body.len());
     let (front, rest) = body.split_at_mut(size);
-    if is_named(long, span.mask, u16::from(offset)) {
-        xor_into(front, octets);
-    }
-    add_octets(rest, later, long, offset, from(octets, size));
+    xor_if(is_named(long, span.mask, u16::from(offset)), front, octets);
+    add_octets(rest, &spans[1..], long, offset, from(octets, size));
 }

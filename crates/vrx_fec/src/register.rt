@@ -1,11 +1,12 @@
 //! Rebuilding a lost packet (RFC 5109 9.1, 9.2).
 
-ghost use Rattle.std.specs.Prelude.{◌≡◌, ◌↔◌, ℕ, ◌+◌, ◌-◌, ◌<◌, ◌≤◌, [], ◌∷◌, length, Ok, Err, IfOk, nat_le};
-ghost use Rattle.vrx_fec.specs.Parity.{Texts, recovery};
-ghost use Rattle.vrx_fec.specs.Rebuilt.{IsOf, covered, covered_by, rebuilt, rebuilt_length};
-ghost use Rattle.vrx_fec.specs.View.{view, view_rebuilt};
+ghost use Rattle.std.specs.Prelude.{◌≡◌, ℕ, ◌<◌, bit_xor, if◌then◌else◌, ◌≤◌, [], ◌∷◌, ◌++◌, length, map, replicate, take, drop, slice_index, vec_len, Ok, Err, IfOk, nat_le};
+ghost use Rattle.vrx_fec.specs.Mask.{is_named};
+ghost use Rattle.vrx_fec.specs.Parity.{Texts, body_of, mask_at, recovery, spans_of as spans_in};
+ghost use Rattle.vrx_fec.specs.Rebuilt.{IsOf, covered_by, header_of, rebuilt};
+ghost use Rattle.vrx_fec.specs.View.{view, view_level, view_rebuilt};
 
-use crate::fec::Fec;
+use crate::fec::{Fec, Level};
 use crate::mask::is_named;
 use crate::parity::{add_octets, fields_of, xor_into};
 use crate::span::{Span, spans_of};
@@ -40,14 +41,14 @@ pub struct Register {
 }
 
 impl Model for Register {
-    ghost use Rattle.std.specs.Prelude.{◌≤◌, drop, length};
+    ghost use Rattle.std.specs.Prelude.{◌<◌, ◌≤◌, drop, length, slice_index};
     ghost use Rattle.vrx_fec.specs.Rebuilt.{Sums};
 
     ghost Value = { Sums };
 
     ghost view = { λ a. record { fields = a.fields; body = drop 12 a.text.items } };
 
-    ghost invariant = { λ a. 12 ≤ length a.text.items };
+    ghost invariant = { λ a. (12 ≤ length a.text.items) × (slice_index a.fields 0 < 64) };
 }
 
 impl Register {
@@ -55,15 +56,7 @@ impl Register {
     pub fn start(alloc: Global, fec: &Fec<'_>) -> Result<Register, NoMemory>
         ensures starts { IfOk result (λ register. IsOf register (view fec.now) []) }
     {
-        let size = fec.levels.as_slice().iter().fold(
-            12,
-            |size: usize, level| size.saturating_add(level.octets.len()),
-        );
-        let mut text = Vec::with_capacity(alloc, size)?;
-        text.extend_from_slice(&[0; 12])?;
-        for level in fec.levels.as_slice() {
-            text.extend_from_slice(level.octets)?;
-        }
+        let text = text_of(alloc, fec.levels.as_slice())?;
         Ok(Register {
             fields: recovery_of(&fec.head),
             text,
@@ -78,9 +71,7 @@ impl Register {
             IsOf self.new (view fec.now) ((offset, text.now) ∷ texts) }
     {
         xor_into(&mut self.fields, &fields_of(text));
-        let spans = spans_of(&fec.levels);
-        let (_room, body) = self.text.as_mut_slice().split_at_mut(12);
-        add_octets(body, spans.as_slice(), fec.long, offset, from(text, 12));
+        add_to_text(&mut self.text, fec, offset, text);
     }
 
     /// The packet that is missing, at this offset from SN base and of this SSRC, once all others were added.
@@ -88,23 +79,80 @@ impl Register {
         ensures rebuilds { (texts : Texts) → IsOf self (view fec.now) texts →
             view_rebuilt result ≡ rebuilt (view fec.now) texts missing ssrc }
     {
-        let [f0, f1, f2, f3, f4, f5, f6, f7] = self.fields;
-        let length = u16::from_be_bytes([f6, f7]);
-        if usize::from(length) > MOST_REBUILT {
+        let length = usize::from(u16::from_be_bytes([self.fields[6], self.fields[7]]));
+        if length > MOST_REBUILT {
             return Err(RecoverFault::BadLength);
         }
         let spans = spans_of(&fec.levels);
-        if !is_covered(usize::from(length), spans.as_slice(), fec.long, missing) {
+        if !is_covered(length, spans.as_slice(), fec.long, missing) {
             return Err(RecoverFault::NotCovered);
         }
-        let [n1, n0] = fec.base.wrapping_add(u16::from(missing)).to_be_bytes();
-        let [s3, s2, s1, s0] = ssrc.to_be_bytes();
-        let header = [128 + f0 % 64, f1, n1, n0, f2, f3, f4, f5, s3, s2, s1, s0];
-        let mut text = self.text;
-        text.truncate(12 + usize::from(length));
-        text.as_mut_slice()[..12].copy_from_slice(&header);
-        Ok(text)
+        let number = fec.base.wrapping_add(u16::from(missing));
+        let header = header_of(self.fields, number, ssrc);
+        Ok(with_header(self.text, &header, length))
     }
+}
+
+/// Adds a text's octets after its first twelve to those after the first twelve of another one.
+fn add_to_text(to: &mut Vec<u8>, fec: &Fec<'_>, offset: u8, text: &[u8])
+    requires { 12 ≤ length to.old.items }
+    ensures size { length to.new.items ≡ length to.old.items }
+    ensures body { (k : ℕ) → k < length (drop 12 to.old.items) → slice_index (drop 12 to.new.items) k ≡
+        bit_xor (slice_index (drop 12 to.old.items) k)
+        (if is_named fec.now.long (mask_at (spans_in (view fec.now).levels) k) offset then slice_index (drop 12 text.now) k
+        else 0) }
+{
+    let spans = spans_of(&fec.levels);
+    let (_room, body) = to.as_mut_slice().split_at_mut(12);
+    add_octets(body, spans.as_slice(), fec.long, offset, from(text, 12));
+}
+
+/// Room for the first twelve octets of a packet, and the octets of all levels.
+fn text_of(alloc: Global, levels: &[Level<'_>]) -> Result<Vec<u8>, NoMemory>
+    ensures { IfOk result (λ text. text.items ≡ replicate 12 0 ++ body_of (map view_level levels.now)) }
+{
+    let size = levels.iter().fold(
+        12,
+        |size: usize, level| size.saturating_add(level.octets.len()),
+    );
+    let mut text = Vec::with_capacity(alloc, size)?;
+    text.extend_from_slice(&[0; 12])?;
+    for level in levels {
+        text.extend_from_slice(level.octets)?;
+    }
+    Ok(text)
+}
+
+/// The first twelve octets of a packet of these fields and of this number and SSRC. Its version is 2.
+fn header_of(fields: [u8; 8], number: u16, ssrc: u32) -> [u8; 12]
+    requires { slice_index fields 0 < 64 }
+    ensures { result ≡ header_of fields number ssrc }
+{
+    let [f0, f1, f2, f3, f4, f5, _, _] = fields;
+    let [n1, n0] = number.to_be_bytes();
+    let [s3, s2, s1, s0] = ssrc.to_be_bytes();
+    [128 + f0, f1, n1, n0, f2, f3, f4, f5, s3, s2, s1, s0]
+}
+
+/// The text with this header as its first twelve octets, and with so many of the octets after them.
+fn with_header(text: Vec<u8>, header: &[u8; 12], length: usize) -> Vec<u8>
+    requires room { 12 ≤ vec_len text }
+    requires fits { length ≤ 65535 }
+    ensures { result.items ≡ header.now ++ take length (drop 12 text.items) }
+{
+    let mut text = text;
+    text.truncate(12 + length);
+    put_front(text.as_mut_slice(), header);
+    text
+}
+
+/// Puts a header over the first twelve octets.
+fn put_front(text: &mut [u8], header: &[u8; 12])
+    requires { 12 ≤ length text.old }
+    ensures { text.new ≡ header.now ++ drop 12 text.old }
+{
+    let (front, _rest) = text.split_at_mut(12);
+    front.copy_from_slice(header);
 }
 
 /// The recovery fields of a FEC header.
