@@ -1,11 +1,11 @@
 -- The XOR at places of levels, and what a register of texts has.
 use Rattle.std.proofs.Common.{◌≡◌, ℕ, zero, suc, ◌+◌, ◌-◌, ◌*◌, ◌%◌, ◌^◌, ◌<◌, ◌≤◌, min, Bool, true, false, cond, List, [], ◌∷◌, ◌++◌, length, map, take, drop, get_or, slice_index, bit_xor, Result, Ok, Err, refl, sym, ap, ◌∙◌, subst, inl, inr, arith}
-use Rattle.std.specs.Prelude.{nat_lt, ◌==◌, if◌then◌else◌, filter}
+use Rattle.std.specs.Prelude.{nat_lt, nat_le, ◌==◌, if◌then◌else◌, filter}
 use Rattle.std.specs.List.{between}
 use Rattle.std.specs.Int.{w16, from_be_bytes}
 use Rattle.std.specs.Int.Bits.{xor_assoc, xor_self, xor_zero_l, xor_zero_r}
 use Rattle.std.proofs.Math.Nat.{min-eq_left, min-eq_right}
-use Rattle.std.proofs.lemmas.Bool.{cases_lt, eqb-false, lt-ltb, le-ltb}
+use Rattle.std.proofs.lemmas.Bool.{cases_lt, eqb-false, leb-true, lt-ltb, le-ltb}
 use Rattle.std.proofs.lemmas.List.{ext_get_or, get_or_append_left, get_or-append_right, get_or-take, get_or-drop, get_or-map, length-append, length-drop, length-map, length-take-le}
 use Rattle.std.proofs.lemmas.Nat.{xor_comm, xor_lt}
 use Rattle.std.proofs.lemmas.Slice.{first_rest}
@@ -217,3 +217,21 @@ small-field fields fields_new text small is =
     let both : bit_xor (slice_index fields 0) (slice_index (fields_of text) 0) < 2 ^ 6 =
     xor_lt 6 (slice_index fields 0) (slice_index (fields_of text) 0) small part in
     subst (λ n. n < 64) (sym is) both
+
+-- what a register gives, by what it asks of its parts
+pub finished : (p : Payload) (texts : Texts) (missing ssrc : ℕ) (fields body header text : List ℕ) (len number : ℕ)
+    (spans : List Span) (covers : Bool) → IsOf (record { fields = fields; body = body }) p texts
+    → len ≡ slice_index fields 6 * 256 + slice_index fields 7 → len ≤ MOST_REBUILT
+    → covers ≡ nat_le len (covered_by p.long spans missing) → covers ≡ true → spans ≡ spans_of p.levels
+    → number ≡ (p.base + missing) % 2 ^ 16 → header ≡ header_of fields number ssrc → text ≡ header ++ take len body
+    → Ok text ≡ rebuilt p texts missing ssrc
+finished p texts missing ssrc fields body header text len number spans covers is len_is few covers_is holds spans_are
+    number_is header_is text_is =
+    let within : len ≤ covered_by p.long spans missing = leb-true _ _ (sym covers_is ∙ holds) in
+    let sums : Sums = record { fields = fields; body = body } in
+    let given : List ℕ → Result (List ℕ) RecoverFault = λ x. Ok x in
+    let shown : text ≡ header_of fields ((p.base + missing) % 2 ^ 16) ssrc ++ take len body =
+    text_is ∙ ap (λ x. x ++ take len body) (header_is ∙ ap (λ n. header_of fields n ssrc) number_is) in
+    ap given shown
+    ∙ rebuilt-ok p texts missing ssrc sums len is len_is few
+    (subst (λ s. len ≤ covered_by p.long s missing) spans_are within)
