@@ -1,5 +1,6 @@
 -- FEC payloads on rows worked by hand; masks, the reading, the XOR, and what is rebuilt.
 mod MaskLemmas
+mod PayloadLemmas
 mod ReadingLemmas
 mod Rows
 mod SumLemmas
