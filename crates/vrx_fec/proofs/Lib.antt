@@ -2,5 +2,6 @@
 mod MaskLemmas
 mod PayloadLemmas
 mod ReadingLemmas
+mod RebuildLemmas
 mod Rows
 mod SumLemmas

@@ -146,7 +146,7 @@ length-numbers_from zero first = refl
 length-numbers_from (suc count) first = ap suc (length-numbers_from count (first + 1))
 
 -- no more is covered than the levels have
-covered-within : (long : Bool) (i : ℕ) (levels : List Level)
+pub covered-within : (long : Bool) (i : ℕ) (levels : List Level)
     → covered_by long (spans_of levels) i ≤ length (body_of levels)
 covered-within long i [] = omega arith
 covered-within long i (level ∷ levels) =
@@ -159,7 +159,7 @@ covered-within long i (level ∷ levels) =
     ]
 
 -- the first octets, by a function of the place
-take-places : (f : ℕ → ℕ) (n : ℕ) (body : List ℕ) → n ≤ length body
+pub take-places : (f : ℕ → ℕ) (n : ℕ) (body : List ℕ) → n ≤ length body
     → ((k : ℕ) → k < length body → slice_index body k ≡ f k) → take n body ≡ map f (numbers_from 0 n)
 take-places f n body le at =
     let size : length (take n body) ≡ n = length-take-le n body le in
@@ -172,13 +172,13 @@ take-places f n body le at =
     ∙ ap f (numbers_from-at n 0 k lt ∙ omega arith)))
 
 -- fields that agree give one header
-same-header : (xs ys : List ℕ) (number ssrc : ℕ) → ((k : ℕ) → k < 8 → slice_index xs k ≡ slice_index ys k)
+pub same-header : (xs ys : List ℕ) (number ssrc : ℕ) → ((k : ℕ) → k < 8 → slice_index xs k ≡ slice_index ys k)
     → header_of xs number ssrc ≡ header_of ys number ssrc
 same-header xs ys number ssrc same =
     rw (same 0 (omega arith), same 1 (omega arith), same 2 (omega arith), same 3 (omega arith), same 4 (omega arith),
     same 5 (omega arith)) refl
 
-fields-at : (f : ℕ → ℕ) (fields : List ℕ) → ((k : ℕ) → k < 8 → slice_index fields k ≡ f k)
+pub fields-at : (f : ℕ → ℕ) (fields : List ℕ) → ((k : ℕ) → k < 8 → slice_index fields k ≡ f k)
     → (k : ℕ) → k < 8 → slice_index fields k ≡ slice_index (map f (numbers_from 0 8)) k
 fields-at f fields at k lt =
     at k lt ∙ sym (get_or-map f (numbers_from 0 8) k 0 0 lt ∙ ap f (numbers_from-at 8 0 k lt ∙ omega arith))
