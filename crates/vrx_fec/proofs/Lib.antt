@@ -1,4 +1,5 @@
 -- FEC payloads on rows worked by hand; masks, the reading, the XOR, and what is rebuilt.
+mod MakerLemmas
 mod MaskLemmas
 mod PayloadLemmas
 mod ReadingLemmas

@@ -241,7 +241,7 @@ cut-levels (suc more) long before at (o ∷ octets) levels bytes e =
     let first = bind_ok (next_level_at long before at (o ∷ octets)) (after_first more long at) levels e in
     let read : Level × List ℕ = first.0 in
     let later = bind_ok (levels_at more long (Some read.0.mask) (at + level_size long read.0) read.1)
-        (λ ls. Ok (read.0 ∷ ls)) levels first.2 in
+    (λ ls. Ok (read.0 ∷ ls)) levels first.2 in
     let next = bind_ok (level_at long at (o ∷ octets)) (nested_at before at) read first.1 in
     let nested = nested-ok at (is_nested before next.0.0.mask) next.0 read _ next.2 in
     let cut : IsCut long (o ∷ octets) read =

@@ -41,8 +41,8 @@ named-pick long mask [] after t is = ap (λ b. cond b (t ∷ named long mask aft
 named-pick long mask (b ∷ before) after t is =
     let rest = named-pick long mask before after t is in
     elim (is_named long mask b.0)
-      as (λ x. cond x (b ∷ named long mask (before ++ t ∷ after)) (named long mask (before ++ t ∷ after))
-      ≡ cond x (b ∷ named long mask before) (named long mask before) ++ t ∷ named long mask after) [
+    as (λ x. cond x (b ∷ named long mask (before ++ t ∷ after)) (named long mask (before ++ t ∷ after))
+    ≡ cond x (b ∷ named long mask before) (named long mask before) ++ t ∷ named long mask after) [
       | true ↦ ap (λ ts. b ∷ ts) rest
       | false ↦ rest
     ]
@@ -53,8 +53,8 @@ named-append long mask [] after = refl
 named-append long mask (b ∷ before) after =
     let rest = named-append long mask before after in
     elim (is_named long mask b.0)
-      as (λ x. cond x (b ∷ named long mask (before ++ after)) (named long mask (before ++ after))
-      ≡ cond x (b ∷ named long mask before) (named long mask before) ++ named long mask after) [
+    as (λ x. cond x (b ∷ named long mask (before ++ after)) (named long mask (before ++ after))
+    ≡ cond x (b ∷ named long mask before) (named long mask before) ++ named long mask after) [
       | true ↦ ap (λ ts. b ∷ ts) rest
       | false ↦ rest
     ]
@@ -83,8 +83,8 @@ bit-within a b one same =
     let first : bit_and 1 (b % 2) ≡ 1 = ap (λ n. bit_and n (b % 2)) (sym one) ∙ both in
     elim (cases_lt (b % 2) 1) [
       | inl lt ↦
-      let none : b % 2 ≡ 0 = omega arith in
-      let wrong : 0 ≡ 1 = subst (λ n. bit_and 1 n ≡ 1) none first in absurd (omega (arith, wrong))
+          let none : b % 2 ≡ 0 = omega arith in
+          let wrong : 0 ≡ 1 = subst (λ n. bit_and 1 n ≡ 1) none first in absurd (omega (arith, wrong))
       | inr le ↦ omega arith
     ]
 
@@ -109,7 +109,7 @@ covered-none long i level (next ∷ levels) nested not_named =
     let neither : is_named long next.mask i ≡ false =
     elim (cases_Bool (is_named long next.mask i)) [
       | inl names ↦
-      absurd (true≢false (sym (within-named long next.mask level.mask i parts.0 names) ∙ not_named))
+          absurd (true≢false (sym (within-named long next.mask level.mask i parts.0 names) ∙ not_named))
       | inr is ↦ is
     ] in
     let rest = covered-none long i next levels parts.1 neither in
@@ -132,17 +132,17 @@ module _ (long : Bool) (i : ℕ) where
       subst (λ b. k < cond b size 0 + covered_by long (spans_of (next ∷ levels)) i) names within in
       elim (cases_lt k size) [
         | inl lt ↦
-        ap (λ m. is_named long m i) (mask_at-first (span_of level) (spans_of (next ∷ levels)) k lt) ∙ names
+            ap (λ m. is_named long m i) (mask_at-first (span_of level) (spans_of (next ∷ levels)) k lt) ∙ names
         | inr le ↦
-        let later : k - size < covered_by long (spans_of (next ∷ levels)) i = omega arith in
-        let there : is_named long (mask_at (spans_of (next ∷ levels)) (k - size)) i ≡ true =
-        elim (cases_Bool (is_named long next.mask i)) [
-          | inl is ↦ covered-named next levels (k - size) parts.1 is later
-          | inr not_named ↦
-          let none : covered_by long (spans_of (next ∷ levels)) i ≡ 0 =
-          covered-none long i next levels parts.1 not_named in absurd (omega (arith, later, none))
-        ] in
-        ap (λ m. is_named long m i) (mask_at-later (span_of level) (spans_of (next ∷ levels)) k le) ∙ there
+            let later : k - size < covered_by long (spans_of (next ∷ levels)) i = omega arith in
+            let there : is_named long (mask_at (spans_of (next ∷ levels)) (k - size)) i ≡ true =
+            elim (cases_Bool (is_named long next.mask i)) [
+              | inl is ↦ covered-named next levels (k - size) parts.1 is later
+              | inr not_named ↦
+                  let none : covered_by long (spans_of (next ∷ levels)) i ≡ 0 =
+                  covered-none long i next levels parts.1 not_named in absurd (omega (arith, later, none))
+            ] in
+            ap (λ m. is_named long m i) (mask_at-later (span_of level) (spans_of (next ∷ levels)) k le) ∙ there
       ]
 
 -- ---- what is rebuilt

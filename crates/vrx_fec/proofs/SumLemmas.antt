@@ -42,23 +42,23 @@ add-place long offset span later body octets front rest size size_is front_is fi
     let short : size ≤ length body = omega (arith, size_is) in
     elim (cases_lt k size) [
       | inl lt ↦
-      let small : k < span.size = omega (arith, size_is) in
-      let inside : k < length (take size body) = omega (arith, length-take-le size body short) in
-      get_or_append_left front rest 0 k (omega (arith, front_is)) ∙ first k inside
-      ∙ ap (λ x. bit_xor x (added long span.mask offset octets k)) (get_or-take size body k 0 lt)
-      ∙ ap (λ m. bit_xor (slice_index body k) (added long m offset octets k)) (sym (mask_at-first span later k small))
+          let small : k < span.size = omega (arith, size_is) in
+          let inside : k < length (take size body) = omega (arith, length-take-le size body short) in
+          get_or_append_left front rest 0 k (omega (arith, front_is)) ∙ first k inside
+          ∙ ap (λ x. bit_xor x (added long span.mask offset octets k)) (get_or-take size body k 0 lt)
+          ∙ ap (λ m. bit_xor (slice_index body k) (added long m offset octets k)) (sym (mask_at-first span later k small))
       | inr le ↦
-      let whole : size ≡ span.size = omega (arith, size_is) in
-      let place : size + (k - size) ≡ k = omega arith in
-      let inside : k - size < length (drop size body) = omega (arith, length-drop size body) in
-      let mask_is : mask_at later (k - size) ≡ mask_at (span ∷ later) k =
-      ap (λ n. mask_at later (k - n)) whole ∙ sym (mask_at-later span later k (omega (arith, whole))) in
-      get_or-append_right front rest size k 0 front_is le ∙ second (k - size) inside
-      ∙ ap (λ x. bit_xor x (added long (mask_at later (k - size)) offset (drop size octets) (k - size)))
-      (get_or-drop size body (k - size) 0 ∙ ap (slice_index body) place)
-      ∙ ap (λ x. bit_xor (slice_index body k) (if is_named long (mask_at later (k - size)) offset then x else 0))
-      (get_or-drop size octets (k - size) 0 ∙ ap (slice_index octets) place)
-      ∙ ap (λ m. bit_xor (slice_index body k) (added long m offset octets k)) mask_is
+          let whole : size ≡ span.size = omega (arith, size_is) in
+          let place : size + (k - size) ≡ k = omega arith in
+          let inside : k - size < length (drop size body) = omega (arith, length-drop size body) in
+          let mask_is : mask_at later (k - size) ≡ mask_at (span ∷ later) k =
+          ap (λ n. mask_at later (k - n)) whole ∙ sym (mask_at-later span later k (omega (arith, whole))) in
+          get_or-append_right front rest size k 0 front_is le ∙ second (k - size) inside
+          ∙ ap (λ x. bit_xor x (added long (mask_at later (k - size)) offset (drop size octets) (k - size)))
+          (get_or-drop size body (k - size) 0 ∙ ap (slice_index body) place)
+          ∙ ap (λ x. bit_xor (slice_index body k) (if is_named long (mask_at later (k - size)) offset then x else 0))
+          (get_or-drop size octets (k - size) 0 ∙ ap (slice_index octets) place)
+          ∙ ap (λ m. bit_xor (slice_index body k) (added long m offset octets k)) mask_is
     ]
 
 -- the same of lists that are cut so, and of spans of which there are some
@@ -85,12 +85,12 @@ add-cut long offset spans body octets size front_old rest_old octets_later front
     let all : spans ≡ span ∷ later = first_rest spans no_span many in
     let short : size ≤ length body = omega (arith, size_is) in
     let first_at : (j : ℕ) → j < length (take size body) → slice_index front j ≡
-        bit_xor (slice_index (take size body) j) (added long span.mask offset octets j) =
+    bit_xor (slice_index (take size body) j) (added long span.mask offset octets j) =
     λ j lt. first j (omega (arith, ap length front_is))
     ∙ ap (λ x. bit_xor (slice_index x j) (if adds then slice_index octets j else 0)) front_is
     ∙ ap (λ b. bit_xor (slice_index (take size body) j) (if b then slice_index octets j else 0)) adds_is in
     let second_at : (j : ℕ) → j < length (drop size body) → slice_index rest j ≡
-        bit_xor (slice_index (drop size body) j) (added long (mask_at later j) offset (drop size octets) j) =
+    bit_xor (slice_index (drop size body) j) (added long (mask_at later j) offset (drop size octets) j) =
     λ j lt. second j (omega (arith, ap length rest_is))
     ∙ ap (λ x. bit_xor (slice_index x j) (added long (mask_at later j) offset octets_later j)) rest_is
     ∙ ap (λ x. bit_xor (slice_index (drop size body) j) (added long (mask_at later j) offset x j)) later_is in
@@ -105,7 +105,7 @@ turned : (r x t : ℕ) → bit_xor (bit_xor r x) t ≡ bit_xor r (bit_xor t x)
 turned r x t = xor_assoc r x t ∙ ap (bit_xor r) (xor_comm x t)
 
 -- the XOR with one text more, if it is named
-one-named : (part : List ℕ → ℕ) (b : Bool) (t : ℕ × List ℕ) (ts : Texts)
+pub one-named : (part : List ℕ → ℕ) (b : Bool) (t : ℕ × List ℕ) (ts : Texts)
     → xor_of part (cond b (t ∷ ts) ts) ≡ bit_xor (cond b (part t.1) 0) (xor_of part ts)
 one-named part true t ts = refl
 one-named part false t ts = sym (xor_zero_l (xor_of part ts))
@@ -153,7 +153,7 @@ covered-within long i (level ∷ levels) =
     let rest = covered-within long i levels in
     let whole = length-append level.octets (body_of levels) in
     elim (is_named long level.mask i)
-      as (λ b. cond b (length level.octets) 0 + covered_by long (spans_of levels) i ≤ length (level.octets ++ body_of levels)) [
+    as (λ b. cond b (length level.octets) 0 + covered_by long (spans_of levels) i ≤ length (level.octets ++ body_of levels)) [
       | true ↦ omega arith
       | false ↦ omega arith
     ]
@@ -175,8 +175,14 @@ take-places f n body le at =
 pub same-header : (xs ys : List ℕ) (number ssrc : ℕ) → ((k : ℕ) → k < 8 → slice_index xs k ≡ slice_index ys k)
     → header_of xs number ssrc ≡ header_of ys number ssrc
 same-header xs ys number ssrc same =
-    rw (same 0 (omega arith), same 1 (omega arith), same 2 (omega arith), same 3 (omega arith), same 4 (omega arith),
-    same 5 (omega arith)) refl
+    rw (
+      same 0 (omega arith),
+      same 1 (omega arith),
+      same 2 (omega arith),
+      same 3 (omega arith),
+      same 4 (omega arith),
+      same 5 (omega arith),
+    ) refl
 
 pub fields-at : (f : ℕ → ℕ) (fields : List ℕ) → ((k : ℕ) → k < 8 → slice_index fields k ≡ f k)
     → (k : ℕ) → k < 8 → slice_index fields k ≡ slice_index (map f (numbers_from 0 8)) k

@@ -1,4 +1,5 @@
 pub mod Laws
+pub mod Made
 pub mod Making
 pub mod Mask
 pub mod Parity

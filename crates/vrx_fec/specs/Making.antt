@@ -1,11 +1,11 @@
 -- Making a FEC payload (RFC 5109 8): its plan, and the payload to which nothing was added.
-use Rattle.std.specs.Prelude.{◌≡◌, ℕ, ◌+◌, ◌^◌, ◌<◌, ◌≤◌, Bool, true, if◌then◌else◌, List, [], ◌∷◌, ◌++◌, length, map, replicate, take, drop, All}
+use Rattle.std.specs.Prelude.{◌≡◌, ℕ, ◌+◌, ◌^◌, ◌<◌, ◌≤◌, Bool, true, if◌then◌else◌, List, [], ◌∷◌, ◌++◌, length, map, replicate, All}
 use Rattle.std.specs.Int.{w16, to_be_bytes}
 use Rattle.vrx_fec.specs.declared.fec.TheConstants.{MOST_LEVELS}
 use Rattle.vrx_fec.specs.declared.maker.LevelPlan.{LevelPlan}
 use Rattle.vrx_fec.specs.declared.span.Span.{Span}
 use Rattle.vrx_fec.specs.Mask.{width, is_named, are_nested}
-use Rattle.vrx_fec.specs.Payload.{Level, Payload, first_mask, octets_of}
+use Rattle.vrx_fec.specs.Payload.{Level, Payload, first_mask}
 use Rattle.vrx_fec.specs.Parity.{octet_at, spans_of}
 
 -- the masks of a plan's levels
@@ -16,7 +16,7 @@ plan_masks plan = map (λ level. level.mask) plan
 pub record IsPlan (long : Bool) (plan : List LevelPlan) : Type 0 where
   pub some : 1 ≤ length plan
   pub few : length plan ≤ MOST_LEVELS
-  pub fits : All (λ mask. mask < 2 ^ width long) (plan_masks plan)
+  pub fits : All (λ level. level.mask < 2 ^ width long) plan
   pub nested : are_nested (plan_masks plan) ≡ true
   pub names_base : is_named long (first_mask (plan_masks plan)) 0 ≡ true
 
@@ -49,35 +49,6 @@ pub record Form : Type 0 where
 abbrev pub form_of : Payload → Form
 form_of p = record { long = p.long; base = p.base; spans = spans_of p.levels }
 
--- levels of these spans, whose octets are cut from one list
-abbrev pub levels_of : List Span → List ℕ → List Level
-levels_of [] octets = []
-levels_of (span ∷ spans) octets =
-    record { mask = span.mask; octets = take span.size octets } ∷ levels_of spans (drop span.size octets)
-
--- the payload of a maker's parts
-abbrev pub made : Bool → ℕ → List Span → List ℕ → List ℕ → Payload
-made long base spans fields body = record {
-  head = head_of long base fields;
-  long = long;
-  base = base;
-  levels = levels_of spans body;
-}
-
--- how many octets the levels protect of a packet, in all
-abbrev pub total : List Span → ℕ
-total [] = 0
-total (span ∷ spans) = span.size + total spans
-
--- WHAT A MAKER KEEPS, of which no public clause speaks: a plan, its fields, the octets of its levels, and room for the
--- payload
-pub record IsMaker (long : Bool) (base : ℕ) (spans : List Span) (fields body out : List ℕ) (capacity : ℕ) : Type 0 where
-  pub few : length spans ≤ MOST_LEVELS
-  pub fits : All (λ span. span.mask < 2 ^ width long) spans
-  pub sizes : All (λ span. span.size < 2 ^ 16) spans
-  pub nested : are_nested (map (λ span. span.mask) spans) ≡ true
-  pub names_base : is_named long (first_mask (map (λ span. span.mask) spans)) 0 ≡ true
-  pub first_field : octet_at 0 fields < 64
-  pub size : length body ≡ total spans
-  pub empty : out ≡ []
-  pub room : length (octets_of (made long base spans fields body)) ≤ capacity
+-- what a level of a plan protects
+abbrev pub span_in : LevelPlan → Span
+span_in level = record { mask = level.mask; size = level.length }

@@ -1,11 +1,14 @@
 //! Making a FEC payload (RFC 5109 8.1, 8.2).
 
-ghost use Rattle.std.specs.Prelude.{◌≡◌, ℕ, ◌<◌, ◌≤◌, false, [], ◌∷◌, length, Ok, IfOk, IsOkAnd, IsPermutation};
-ghost use Rattle.vrx_fec.specs.Making.{IsPlan, blank, form_of};
-ghost use Rattle.vrx_fec.specs.Parity.{IsParity, IsTrue, Texts, offsets_of};
-ghost use Rattle.vrx_fec.specs.Payload.{IsPayload, is_ahead, octets_of, protected};
+ghost use Rattle.std.specs.Prelude.{◌≡◌, ℕ, ◌+◌, ◌*◌, ◌^◌, ◌<◌, ◌≤◌, bit_xor, if◌then◌else◌, false, [], ◌∷◌, ◌++◌, All, length, map, drop, flat_map, slice_index, vec_capacity, Ok, IfOk, IsPermutation};
+ghost use Rattle.vrx_fec.specs.Made.{ArePlanned, levels_of, total};
+ghost use Rattle.vrx_fec.specs.Making.{IsPlan, blank, form_of, head_of, span_in};
+ghost use Rattle.vrx_fec.specs.Mask.{is_named, width};
+ghost use Rattle.vrx_fec.specs.Parity.{IsParity, IsTrue, Texts, mask_at, offsets_of};
+ghost use Rattle.vrx_fec.specs.Payload.{IsPayload, is_ahead, level_octets, mask_octets, octets_of, protected};
 ghost use Rattle.vrx_fec.specs.Reading.{reading};
 
+use crate::fec::HEAD;
 use crate::parity::{add_octets, fields_of, xor_into};
 use crate::span::Span;
 use arrayvec::ArrayVec;
@@ -41,7 +44,7 @@ pub struct FecMaker {
 
 impl Model for FecMaker {
     ghost use Rattle.std.specs.Prelude.{◌≡◌, [], length, vec_capacity};
-    ghost use Rattle.vrx_fec.specs.Making.{made, IsMaker};
+    ghost use Rattle.vrx_fec.specs.Made.{made, IsMaker};
     ghost use Rattle.vrx_fec.specs.Payload.{Payload};
 
     ghost Value = { Payload };
@@ -63,25 +66,15 @@ impl FecMaker {
         ensures starts { IfOk result (λ maker. maker ≡ blank long base levels.now) }
         ensures parity { IfOk result (λ maker. IsParity maker []) }
     {
-        let mut spans = ArrayVec::new();
-        let mut total: usize = 0;
-        let mut size: usize = 10;
-        for level in levels {
-            let length = usize::from(level.length);
-            spans.push(Span {
-                mask: level.mask,
-                size: length,
-            });
-            total += length;
-            size += header_size(long) + length;
-        }
+        let spans = spans_of_plan(levels);
+        let total = total_of(spans.as_slice());
         Ok(FecMaker {
             base,
             long,
             spans,
             fields: [0; 8],
             body: vec![in alloc; 0; total]?,
-            out: Vec::with_capacity(alloc, size)?,
+            out: Vec::with_capacity(alloc, HEAD + 8 * levels.len() + total)?,
         })
     }
 
@@ -93,12 +86,12 @@ impl FecMaker {
         ensures kept { form_of self.new ≡ form_of self.old }
     {
         xor_into(&mut self.fields, &fields_of(text));
-        add_octets(
-            self.body.as_mut_slice(),
+        add_to_body(
+            &mut self.body,
             self.spans.as_slice(),
             self.long,
             offset,
-            from(text, 12),
+            text,
         );
     }
 
@@ -121,44 +114,114 @@ impl FecMaker {
             mut out,
         } = self;
         put(&mut out, &head_of(long, base, fields));
-        let mut at = 0;
-        for span in spans.as_slice() {
-            put_level_header(&mut out, long, *span);
-            put(&mut out, &body.as_slice()[at..at + span.size]);
-            at += span.size;
-        }
+        put_levels(&mut out, long, spans.as_slice(), body.as_slice());
         out
     }
 }
 
-/// How many octets a level has before those that protect: its length and its mask.
-fn header_size(long: bool) -> usize {
-    if long { 8 } else { 4 }
+/// What the levels of a plan protect.
+fn spans_of_plan(levels: &[LevelPlan]) -> ArrayVec<Span, 8>
+    requires { length levels.now ≤ 8 }
+    ensures spans { result.items ≡ map span_in levels.now }
+    ensures sizes { All (λ span. span.size < 2 ^ 16) result.items }
+{
+    let mut spans = ArrayVec::new();
+    for level in levels {
+        spans.push(Span {
+            mask: level.mask,
+            size: usize::from(level.length),
+        });
+    }
+    spans
+}
+
+/// How many octets of a packet the levels protect, in all.
+fn total_of(spans: &[Span]) -> usize
+    requires few { length spans.now ≤ 8 }
+    requires sizes { All (λ span. span.size < 2 ^ 16) spans.now }
+    ensures total { result ≡ total spans.now }
+    ensures bound { result ≤ 65536 * length spans.now }
+{
+    let mut total = 0;
+    for span in spans {
+        total += span.size;
+    }
+    total
+}
+
+/// Adds a text's octets after its first twelve.
+fn add_to_body(body: &mut Vec<u8>, spans: &[Span], long: bool, offset: u8, text: &[u8])
+    ensures size { length body.new.items ≡ length body.old.items }
+    ensures body { (k : ℕ) → k < length body.old.items → slice_index body.new.items k ≡
+        bit_xor (slice_index body.old.items k)
+        (if is_named long (mask_at spans.now k) offset then slice_index (drop 12 text.now) k else 0) }
+{
+    add_octets(body.as_mut_slice(), spans, long, offset, from(text, 12));
 }
 
 /// The FEC header with these recovery fields.
-fn head_of(long: bool, base: u16, fields: [u8; 8]) -> [u8; 10] {
+fn head_of(long: bool, base: u16, fields: [u8; 8]) -> [u8; 10]
+    requires { slice_index fields 0 < 64 }
+    ensures { result ≡ head_of long base fields }
+{
     let [f0, f1, f2, f3, f4, f5, f6, f7] = fields;
     let [b1, b0] = base.to_be_bytes();
     let flag = if long { 64 } else { 0 };
-    [flag + f0 % 64, f1, b1, b0, f2, f3, f4, f5, f6, f7]
+    [flag + f0, f1, b1, b0, f2, f3, f4, f5, f6, f7]
 }
 
 /// Puts octets last, for which there is room.
-fn put(out: &mut Vec<u8>, octets: &[u8]) {
+fn put(out: &mut Vec<u8>, octets: &[u8])
+    requires { length out.old.items + length octets.now ≤ vec_capacity out.old }
+    ensures items { out.new.items ≡ out.old.items ++ octets.now }
+    ensures capacity { vec_capacity out.old ≤ vec_capacity out.new }
+{
     match out.extend_from_slice(octets) {
         Ok(()) => {}
         Err(_) => unreachable!(),
     }
 }
 
-/// Puts a level's length and mask last.
-fn put_level_header(out: &mut Vec<u8>, long: bool, span: Span) {
-    put(out, &(span.size as u16).to_be_bytes());
-    let mask = span.mask.to_be_bytes();
+/// Puts a mask last, for which there is room.
+fn put_mask(out: &mut Vec<u8>, long: bool, mask: u64)
+    requires fits { mask < 2 ^ width long }
+    requires room { length out.old.items + length (mask_octets long mask) ≤ vec_capacity out.old }
+    ensures items { out.new.items ≡ out.old.items ++ mask_octets long mask }
+    ensures capacity { vec_capacity out.old ≤ vec_capacity out.new }
+{
     if long {
-        put(out, &mask[2..]);
+        let [_, _, m5, m4, m3, m2, m1, m0] = mask.to_be_bytes();
+        put(out, &[m5, m4, m3, m2, m1, m0]);
     } else {
-        put(out, &mask[6..]);
+        put(out, &(mask as u16).to_be_bytes());
+    }
+}
+
+/// Puts a level last, for which there is room.
+fn put_level(out: &mut Vec<u8>, long: bool, mask: u64, octets: &[u8])
+    requires fits { mask < 2 ^ width long }
+    requires size { length octets.now < 2 ^ 16 }
+    requires room { length out.old.items + length (level_octets long (record { mask = mask; octets = octets.now }))
+        ≤ vec_capacity out.old }
+    ensures items { out.new.items ≡ out.old.items ++ level_octets long (record { mask = mask; octets = octets.now }) }
+    ensures capacity { vec_capacity out.old ≤ vec_capacity out.new }
+{
+    put(out, &(octets.len() as u16).to_be_bytes());
+    put_mask(out, long, mask);
+    put(out, octets);
+}
+
+/// Puts levels last, for which there is room. Their octets are cut from one list.
+fn put_levels(out: &mut Vec<u8>, long: bool, spans: &[Span], body: &[u8])
+    requires planned { ArePlanned long spans.now }
+    requires size { length body.now ≡ total spans.now }
+    requires room { length out.old.items + 8 * length spans.now + total spans.now ≤ vec_capacity out.old }
+    ensures { out.new.items ≡ out.old.items ++ flat_map (level_octets long) (levels_of spans.now body.now) }
+{
+    let mut rest = body;
+    for span in spans {
+        let (octets, after) = rest.split_at(span.size);
+        put_level(out, long, span.mask, octets);
+        rest = after;
     }
 }

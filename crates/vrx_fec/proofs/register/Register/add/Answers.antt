@@ -12,8 +12,8 @@ pub invariant_of-self : goal.invariant_of-self
 invariant_of-self c = (
   omega (arith, c.add_to_text.ensures.size, c.self.invariant.0),
   small-field c.self.inside.fields c.xor_into.new.target c.args.text.now c.self.invariant.1
-  (c.xor_into.ensures 0 (omega (arith, eight c))
-  ∙ ap (λ x. bit_xor (slice_index c.self.inside.fields 0) (slice_index x 0)) c.fields_of.ensures),
+      (c.xor_into.ensures 0 (omega (arith, eight c))
+      ∙ ap (λ x. bit_xor (slice_index c.self.inside.fields 0) (slice_index x 0)) c.fields_of.ensures),
 )
 
 pub returns : goal.returns

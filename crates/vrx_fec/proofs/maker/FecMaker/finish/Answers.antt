@@ -1,0 +1,21 @@
+use Rattle.std.proofs.Common.{◌≡◌, ◌++◌, ◌∙◌, List, ℕ, ap, false, flat_map, subst, sym}
+use Rattle.vrx_fec.specs.Made.{levels_of, made}
+use Rattle.vrx_fec.specs.Making.{head_of}
+use Rattle.vrx_fec.specs.Payload.{IsPayload, Payload, is_ahead, level_octets, octets_of}
+use Rattle.vrx_fec.proofs.MakerLemmas.{payload-made, payload-put}
+use Rattle.vrx_fec.proofs.PayloadLemmas.{reading-payload}
+use Rattle.vrx_fec.proofs.maker.FecMaker.finish.Goals as goal
+
+pub returns-clause-payload : goal.returns-clause-payload
+returns-clause-payload c own before =
+    subst (λ (p : Payload). IsPayload c.put_levels.new.out.items own p) c.self.view_is
+    (payload-put c.self.inside.long c.self.inside.base own c.self.inside.spans.items c.self.inside.fields
+    c.self.inside.body.items c.self.invariant.planned c.self.invariant.base_fits c.self.invariant.first_field
+    c.self.invariant.size (subst (λ (p : Payload). is_ahead own p ≡ false) (sym c.self.view_is) before)
+    c.self.inside.out.items c.head_of.result c.put.new.out.items c.put_levels.new.out.items c.as_slice.result.now
+    c.as_slice-2.result.now c.self.invariant.empty c.head_of.ensures c.put.ensures.items c.as_slice.ensures.value
+    c.as_slice-2.ensures.value c.put_levels.ensures)
+
+pub returns-clause-reads : goal.returns-clause-reads
+returns-clause-reads c own before =
+    reading-payload c.put_levels.new.out.items own c.args.self (returns-clause-payload c own before)
