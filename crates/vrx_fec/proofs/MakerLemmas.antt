@@ -1,17 +1,19 @@
 -- The payload of a maker's parts, and what is added to them.
-use Rattle.std.proofs.Common.{◌≡◌, ℕ, zero, suc, ◌+◌, ◌-◌, ◌*◌, ◌/◌, ◌%◌, ◌^◌, ◌<◌, ◌≤◌, Bool, true, false, cond, List, [], ◌∷◌, ◌++◌, All, length, map, replicate, take, drop, get_or, bit_xor, Ok, refl, sym, ap, ◌∙◌, subst, arith}
-use Rattle.std.specs.Prelude.{◌==◌, if◌then◌else◌, slice_index, flat_map}
+use Rattle.std.proofs.Common.{◌≡◌, ℕ, zero, suc, ◌+◌, ◌-◌, ◌*◌, ◌/◌, ◌%◌, ◌^◌, ◌<◌, ◌≤◌, Bool, true, false, cond, List, [], ◌∷◌, ◌++◌, All, length, map, replicate, take, drop, get_or, bit_xor, Result, Ok, refl, sym, ap, ◌∙◌, subst, arith}
+use Rattle.std.specs.Prelude.{◌==◌, if◌then◌else◌, slice_index, flat_map, IsOkAnd}
 use Rattle.std.specs.Int.{w16, from_be_bytes, to_be_bytes}
 use Rattle.std.proofs.lemmas.Bool.{eq-eqb, ne_eqb, true≢false}
 use Rattle.std.proofs.lemmas.List.{drop-replicate, get_or-drop, get_or-map, get_or-replicate, length-drop, length-map, length-replicate, length-take-le, nil_from_length, take-append-drop, take-replicate}
 use Rattle.std.proofs.lemmas.Nat.{from_be_bytes-to_be_bytes_2, xor_comm}
+use Rattle.vrx_fec.specs.declared.fault.FecFault.{FecFault}
 use Rattle.vrx_fec.specs.declared.maker.LevelPlan.{LevelPlan}
 use Rattle.vrx_fec.specs.declared.span.Span.{Span}
 use Rattle.vrx_fec.specs.Made.{ArePlanned, IsMaker, levels_of, made, span_masks, total}
 use Rattle.vrx_fec.specs.Making.{IsPlan, blank, blank_level, form_of, Form, head_of, plan_masks, span_in}
 use Rattle.vrx_fec.specs.Mask.{are_nested, is_named, width}
-use Rattle.vrx_fec.specs.Payload.{FitsLevel, IsPayload, Level, level_octets, base_in, first_mask, has_long_masks, is_ahead, masks, octets_of}
-use Rattle.vrx_fec.specs.Parity.{IsParity, Texts, body_of, fields_of, mask_at, named, octet_at, recovery, spans_of, xor_of_fields, xor_of_octets}
+use Rattle.vrx_fec.specs.Payload.{FitsLevel, IsPayload, Level, Payload, level_octets, base_in, first_mask, has_long_masks, is_ahead, masks, octets_of}
+use Rattle.vrx_fec.specs.Reading.{reading}
+use Rattle.vrx_fec.specs.Parity.{IsParity, IsTrue, Texts, body_of, fields_of, mask_at, named, octet_at, recovery, spans_of, xor_of_fields, xor_of_octets}
 use Rattle.vrx_fec.proofs.SumLemmas.{added, one-named}
 
 -- ---- levels cut from one list
@@ -185,9 +187,9 @@ are-planned long plan spans spans_are is sizes =
 -- a mask that names the first offset isn't 0
 named-some : (long : Bool) (mask : ℕ) → is_named long mask 0 ≡ true → (mask == 0) ≡ false
 named-some long mask names = ne_eqb mask 0 (λ none. none-named long (subst (λ m. is_named long m 0 ≡ true) none names)) where
-    none-named : (b : Bool) → is_named b 0 0 ≡ true → ⊥
-    none-named true is = true≢false (sym is)
-    none-named false is = true≢false (sym is)
+  none-named : (b : Bool) → is_named b 0 0 ≡ true → ⊥
+  none-named true is = true≢false (sym is)
+  none-named false is = true≢false (sym is)
 
 pub payload-made : (long : Bool) (base own : ℕ) (spans : List Span) (fields body : List ℕ) → ArePlanned long spans
     → base < 2 ^ 16 → octet_at 0 fields < 64 → length body ≡ total spans
@@ -240,3 +242,9 @@ pub zeros-length : (spans : List Span) (body : List ℕ) (size : ℕ) → body �
     → length body ≡ total spans
 zeros-length spans body size body_is size_is =
     let zero_octet : ℕ = 0 in ap length body_is ∙ length-replicate size zero_octet ∙ size_is
+
+-- what is read is true, if the payload is
+pub true-read : (octets : List ℕ) (own : ℕ) (p : Payload) (texts : Texts) → reading octets own ≡ Ok p → IsTrue p texts
+    → IsOkAnd (reading octets own) (λ q. IsTrue q texts)
+true-read octets own p texts reads is =
+    subst (λ (r : Result Payload FecFault). IsOkAnd r (λ q. IsTrue q texts)) (sym reads) is

@@ -7,7 +7,7 @@ use Rattle.std.proofs.lemmas.Bool.{cases_lt, eqb-false, lt-leb}
 use Rattle.vrx_num.specs.ResultChain.{◌>>=◌}
 use Rattle.vrx_fec.specs.declared.fault.FecFault.{FecFault}
 use Rattle.vrx_fec.specs.declared.fec.Level.{Level as LevelSeen}
-use Rattle.vrx_fec.specs.declared.fec.TheConstants.{HALF_SPACE}
+use Rattle.vrx_num.specs.declared.limits.TheConstants.{HALF_SPACE}
 use Rattle.vrx_fec.specs.Mask.{offsets}
 use Rattle.vrx_fec.specs.Payload.{Level, Payload, distance, first_mask, is_ahead, masks, protected}
 use Rattle.vrx_fec.specs.Reading.{level_size, next_level_at, levels_at}

@@ -1,21 +1,23 @@
 -- The XOR at places of levels, and what a register of texts has.
 use Rattle.std.proofs.Common.{◌≡◌, ℕ, zero, suc, ◌+◌, ◌-◌, ◌*◌, ◌%◌, ◌^◌, ◌<◌, ◌≤◌, min, Bool, true, false, cond, List, [], ◌∷◌, ◌++◌, length, map, take, drop, get_or, slice_index, bit_xor, Result, Ok, Err, refl, sym, ap, ◌∙◌, subst, inl, inr, arith}
-use Rattle.std.specs.Prelude.{nat_lt, nat_le, ◌==◌, if◌then◌else◌, filter}
+use Rattle.std.specs.Prelude.{nat_lt, nat_le, ◌==◌, ◌↔◌, if◌then◌else◌, filter, IsErrOf, Vec}
 use Rattle.std.specs.List.{between}
 use Rattle.std.specs.Int.{w16, from_be_bytes}
 use Rattle.std.specs.Int.Bits.{xor_assoc, xor_self, xor_zero_l, xor_zero_r}
 use Rattle.std.proofs.Math.Nat.{min-eq_left, min-eq_right}
-use Rattle.std.proofs.lemmas.Bool.{cases_lt, eqb-false, leb-true, lt-ltb, le-ltb}
+use Rattle.std.proofs.lemmas.Bool.{cases_lt, eqb-false, leb-true, lt-ltb, le-ltb, ltb-false, ltb-true}
 use Rattle.std.proofs.lemmas.List.{ext_get_or, get_or_append_left, get_or-append_right, get_or-take, get_or-drop, get_or-map, length-append, length-drop, length-map, length-take-le}
 use Rattle.std.proofs.lemmas.Nat.{xor_comm, xor_lt}
 use Rattle.std.proofs.lemmas.Slice.{first_rest}
 use Rattle.vrx_fec.specs.declared.register.RecoverFault.{RecoverFault}
+use Rattle.vrx_fec.specs.declared.register.RecoverFault.TheVariants.{BadLength, NotCovered}
 use Rattle.vrx_fec.specs.declared.register.TheConstants.{MOST_REBUILT}
 use Rattle.vrx_fec.specs.declared.span.Span.{Span}
 use Rattle.vrx_fec.specs.Mask.{is_named, numbers_from}
 use Rattle.vrx_fec.specs.Payload.{Level, Payload}
 use Rattle.vrx_fec.specs.Parity.{Texts, body_of, fields_of, mask_at, named, octet_at, recovery, span_of, spans_of, xor_of, xor_of_fields, xor_of_octets}
 use Rattle.vrx_fec.specs.Rebuilt.{IsOf, Sums, covered, covered_by, header_of, rebuilt, rebuilt_field, rebuilt_length, rebuilt_octet, rebuilt_text}
+use Rattle.vrx_fec.specs.View.{view_rebuilt}
 
 -- the mask at a place of the first level, and at one after it
 pub mask_at-first : (span : Span) (spans : List Span) (k : ℕ) → k < span.size → mask_at (span ∷ spans) k ≡ span.mask
@@ -241,3 +243,48 @@ finished p texts missing ssrc fields body header text len number spans covers is
     ap given shown
     ∙ rebuilt-ok p texts missing ssrc sums len is len_is few
     (subst (λ s. len ≤ covered_by p.long s missing) spans_are within)
+
+-- ---- why nothing is rebuilt
+
+-- an answer of the code that is an error
+seen-err : {Z : Type 0} (r : Result (Vec ℕ Z) RecoverFault) (e : RecoverFault) → IsErrOf r e → view_rebuilt r ≡ Err e
+seen-err (Ok v) e h = absurd cc
+seen-err (Err f) e h = cc
+
+err-seen : {Z : Type 0} (r : Result (Vec ℕ Z) RecoverFault) (e : RecoverFault) → view_rebuilt r ≡ Err e → IsErrOf r e
+err-seen (Ok v) e h = absurd cc
+err-seen (Err f) e h = cc
+
+-- the tests, in their order
+is_long : (long far : Bool) (text : List ℕ)
+    → cond long (Err BadLength) (cond far (Err NotCovered) (Ok text)) ≡ Err BadLength → long ≡ true
+is_long true far text e = refl
+is_long false true text e = absurd cc
+is_long false false text e = absurd cc
+
+is_far : (long far : Bool) (text : List ℕ)
+    → cond long (Err BadLength) (cond far (Err NotCovered) (Ok text)) ≡ Err NotCovered → (long ≡ false) × (far ≡ true)
+is_far true far text e = absurd cc
+is_far false true text e = (refl, refl)
+is_far false false text e = absurd cc
+
+module _ {Z : Type 0} (p : Payload) (texts : Texts) (missing ssrc : ℕ) (r : Result (Vec ℕ Z) RecoverFault)
+    (rebuilds : view_rebuilt r ≡ rebuilt p texts missing ssrc) where
+  abbrev len : ℕ
+  len = rebuilt_length p texts
+
+  pub why-long : IsErrOf r BadLength ↔ (MOST_REBUILT < len)
+  why-long = (
+    λ h. ltb-true MOST_REBUILT len (is_long (nat_lt MOST_REBUILT len) (nat_lt (covered p missing) len)
+        (rebuilt_text p texts missing ssrc) (sym rebuilds ∙ seen-err r BadLength h)),
+    λ lt. err-seen r BadLength (rebuilds ∙ (rw (lt-ltb MOST_REBUILT len lt) refl)),
+  )
+
+  pub why-not_covered : IsErrOf r NotCovered ↔ (len ≤ MOST_REBUILT) × (covered p missing < len)
+  why-not_covered = (
+    λ h. let tests = is_far (nat_lt MOST_REBUILT len) (nat_lt (covered p missing) len)
+        (rebuilt_text p texts missing ssrc) (sym rebuilds ∙ seen-err r NotCovered h) in
+        (ltb-false MOST_REBUILT len tests.0, ltb-true (covered p missing) len tests.1),
+    λ both. err-seen r NotCovered
+        (rebuilds ∙ (rw (le-ltb MOST_REBUILT len both.0, lt-ltb (covered p missing) len both.1) refl)),
+  )

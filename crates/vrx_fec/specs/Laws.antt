@@ -2,11 +2,12 @@
 use Rattle.std.specs.Prelude.{◌≡◌, ◌↔◌, ℕ, ◌+◌, ◌-◌, ◌/◌, ◌%◌, ◌^◌, ◌<◌, ◌≤◌, true, List, [], ◌∷◌, ◌++◌, length, take, drop, Ok}
 use Rattle.std.specs.Int.{w16, w32, to_be_bytes}
 use Rattle.vrx_num.specs.Octets.{AreOctets}
+use Rattle.vrx_fec.specs.declared.parity.TheConstants.{HEADER}
 use Rattle.vrx_fec.specs.declared.register.TheConstants.{MOST_REBUILT}
 use Rattle.vrx_fec.specs.Mask.{is_named, are_nested}
 use Rattle.vrx_fec.specs.Payload.{Payload, IsPayload, first_mask, masks}
 use Rattle.vrx_fec.specs.Reading.{reading}
-use Rattle.vrx_fec.specs.Parity.{Texts, IsParity, IsTrue, HEADER, octet_at}
+use Rattle.vrx_fec.specs.Parity.{Texts, IsTrue, octet_at}
 use Rattle.vrx_fec.specs.Rebuilt.{covered, rebuilt, rebuilt_length}
 
 -- reading gives a payload exactly if the octets are that payload

@@ -2,6 +2,7 @@
 -- packet, from its RTP header on; it stands here with its offset from SN base.
 use Rattle.std.specs.Prelude.{◌≡◌, ℕ, ◌+◌, ◌-◌, ◌%◌, ◌<◌, Bool, nat_lt, if◌then◌else◌, bit_xor, List, [], ◌∷◌, ◌++◌, length, map, filter, flat_map, slice_index, IsPermutation}
 use Rattle.std.specs.Int.{w16, to_be_bytes}
+use Rattle.vrx_fec.specs.declared.parity.TheConstants.{HEADER}
 use Rattle.vrx_fec.specs.declared.span.Span.{Span}
 use Rattle.vrx_fec.specs.Mask.{is_named}
 use Rattle.vrx_fec.specs.Payload.{Level, Payload, protected}
@@ -13,10 +14,6 @@ Texts = List (ℕ × List ℕ)
 -- an octet of a list; past its end it counts as 0
 abbrev pub octet_at : ℕ → List ℕ → ℕ
 octet_at k octets = slice_index octets k
-
--- how many octets an RTP header has before its sources
-abbrev pub HEADER : ℕ
-HEADER = 12
 
 -- THE FIELDS of a text that the FEC header protects (RFC 5109 8.1), in its order: the first octet without the version,
 -- so P, X and CC; M and PT; the four octets of the timestamp; and how many octets come after the first twelve, in 16

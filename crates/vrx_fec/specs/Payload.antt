@@ -22,7 +22,8 @@
 use Rattle.std.specs.Prelude.{◌≡◌, ℕ, ◌+◌, ◌-◌, ◌/◌, ◌%◌, ◌^◌, ◌<◌, ◌≤◌, Bool, true, false, not, ◌||◌, ◌==◌, nat_lt, nat_le, if◌then◌else◌, List, [], ◌∷◌, ◌++◌, length, map, drop, slice_index, flat_map, All}
 use Rattle.std.specs.Int.{w16, w64, to_be_bytes, from_be_bytes}
 use Rattle.std.specs.List.{list_all}
-use Rattle.vrx_fec.specs.declared.fec.TheConstants.{HALF_SPACE, MOST_LEVELS}
+use Rattle.vrx_num.specs.declared.limits.TheConstants.{HALF_SPACE}
+use Rattle.vrx_fec.specs.declared.fec.TheConstants.{MOST_LEVELS}
 use Rattle.vrx_fec.specs.Mask.{width, offsets, are_nested}
 
 -- a level: whom it protects, and the octets that protect them (RFC 5109 7.4)

@@ -8,9 +8,6 @@ pub(crate) const HEAD: usize = 10;
 /// A payload has at most so many levels. The limit is this project's own.
 pub(crate) const MOST_LEVELS: usize = 8;
 
-/// A packet this far from SN base, or farther, isn't after it: half of the numbers of 16 bits (RFC 3550 A.1).
-pub(crate) const HALF_SPACE: u16 = 32_768;
-
 /// A level: which packets it protects, and the octets that protect them (RFC 5109 7.4).
 #[derive(Clone, Copy, Debug, Default, PartialEq, Eq)]
 pub struct Level<'a> {

@@ -1,6 +1,6 @@
 //! Making a FEC payload (RFC 5109 8.1, 8.2).
 
-ghost use Rattle.std.specs.Prelude.{◌≡◌, ℕ, ◌+◌, ◌*◌, ◌^◌, ◌<◌, ◌≤◌, bit_xor, if◌then◌else◌, false, [], ◌∷◌, ◌++◌, All, length, map, drop, flat_map, slice_index, vec_capacity, Ok, IfOk, IsPermutation};
+ghost use Rattle.std.specs.Prelude.{◌≡◌, ℕ, ◌+◌, ◌*◌, ◌^◌, ◌<◌, ◌≤◌, bit_xor, if◌then◌else◌, false, [], ◌∷◌, ◌++◌, All, length, map, drop, flat_map, slice_index, vec_capacity, Ok, IfOk, IsOkAnd, IsPermutation};
 ghost use Rattle.vrx_fec.specs.Made.{ArePlanned, levels_of, total};
 ghost use Rattle.vrx_fec.specs.Making.{IsPlan, blank, form_of, head_of, span_in};
 ghost use Rattle.vrx_fec.specs.Mask.{is_named, width};
@@ -9,7 +9,7 @@ ghost use Rattle.vrx_fec.specs.Payload.{IsPayload, is_ahead, level_octets, mask_
 ghost use Rattle.vrx_fec.specs.Reading.{reading};
 
 use crate::fec::HEAD;
-use crate::parity::{add_octets, fields_of, xor_into};
+use crate::parity::{HEADER, MOST_TEXT, add_octets, fields_of, xor_into};
 use crate::span::Span;
 use arrayvec::ArrayVec;
 use std::alloc::Global;
@@ -80,8 +80,8 @@ impl FecMaker {
 
     /// Adds the text of the packet at this offset from SN base.
     pub fn add(&mut self, offset: u8, text: &[u8])
-        requires at_least { 12 ≤ length text.now }
-        requires at_most { length text.now ≤ 65547 }
+        requires at_least { HEADER ≤ length text.now }
+        requires at_most { length text.now ≤ MOST_TEXT }
         ensures adds { (texts : Texts) → IsParity self.old texts → IsParity self.new ((offset, text.now) ∷ texts) }
         ensures kept { form_of self.new ≡ form_of self.old }
     {
@@ -101,9 +101,10 @@ impl FecMaker {
         // It is the payload of each FEC packet that comes after all that it protects, and is read as that.
         ensures payload { (own : ℕ) → is_ahead own self ≡ false → IsPayload result.items own self }
         ensures reads { (own : ℕ) → is_ahead own self ≡ false → reading result.items own ≡ Ok self }
-        // It is true once just the texts were added that level 0 names, each once.
-        ensures is_true { (texts : Texts) → IsParity self texts → IsPermutation (protected self) (offsets_of texts) →
-            IsTrue self texts }
+        // What is read of it is true, if just the texts were added that level 0 names, each once.
+        ensures is_true { (own : ℕ) (texts : Texts) → is_ahead own self ≡ false → IsParity self texts →
+            IsPermutation (protected self) (offsets_of texts) →
+            IsOkAnd (reading result.items own) (λ p. IsTrue p texts) }
     {
         let FecMaker {
             base,
@@ -156,7 +157,7 @@ fn add_to_body(body: &mut Vec<u8>, spans: &[Span], long: bool, offset: u8, text:
         bit_xor (slice_index body.old.items k)
         (if is_named long (mask_at spans.now k) offset then slice_index (drop 12 text.now) k else 0) }
 {
-    add_octets(body.as_mut_slice(), spans, long, offset, from(text, 12));
+    add_octets(body.as_mut_slice(), spans, long, offset, from(text, HEADER));
 }
 
 /// The FEC header with these recovery fields.

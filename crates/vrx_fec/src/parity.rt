@@ -8,6 +8,12 @@ use crate::mask::is_named;
 use crate::span::Span;
 use vrx_num::slices::from;
 
+/// How many octets an RTP header has before its sources (RFC 3550 5.1).
+pub(crate) const HEADER: usize = 12;
+
+/// A protected packet has at most so many octets: those after the first twelve are counted in 16 bits (RFC 5109 8.1).
+pub(crate) const MOST_TEXT: usize = 65_547;
+
 /// Puts the XOR of each octet with the other's octet at the same place into it. An octet that the other hasn't counts
 /// as 0: what is longer is left as it is.
 pub fn xor_into(target: &mut [u8], other: &[u8])
@@ -23,11 +29,11 @@ pub fn xor_into(target: &mut [u8], other: &[u8])
 /// The fields of a text that a FEC header protects: P, X and CC; M and PT; the timestamp; how many octets come after
 /// the first twelve.
 pub(crate) fn fields_of(text: &[u8]) -> [u8; 8]
-    requires at_least { 12 ≤ length text.now }
-    requires at_most { length text.now ≤ 65547 }
+    requires at_least { HEADER ≤ length text.now }
+    requires at_most { length text.now ≤ MOST_TEXT }
     ensures { result ≡ fields_of text.now }
 {
-    let [length1, length0] = ((text.len() - 12) as u16).to_be_bytes();
+    let [length1, length0] = ((text.len() - HEADER) as u16).to_be_bytes();
     [
         text[0] % 64,
         text[1],

@@ -7,9 +7,10 @@ ghost use Rattle.vrx_fec.specs.Reading.{level_header_at, level_at, level_size, i
 ghost use Rattle.vrx_fec.specs.View.{view, view_level, view_result, result_by};
 
 use crate::fault::{FecFault, FecFaultKind};
-use crate::fec::{Fec, HALF_SPACE, HEAD, Level};
+use crate::fec::{Fec, HEAD, Level};
 use crate::mask::{is_within, names_from};
 use arrayvec::ArrayVec;
+use vrx_num::limits::HALF_SPACE;
 
 /// The protection length, the mask, and what is after them.
 fn level_header_of(long: bool, octets: &[u8]) -> Option<(u16, u64, &[u8])>
@@ -142,7 +143,7 @@ fn is_ahead(fec: &Fec<'_>, own: u16) -> bool
     ensures { result ≡ is_ahead own (view fec.now) }
 {
     let distance = distance(own, fec.base);
-    distance >= HALF_SPACE || names_from(fec.long, first_mask(fec), distance)
+    u64::from(distance) >= HALF_SPACE || names_from(fec.long, first_mask(fec), distance)
 }
 
 /// The payload, if it protects something, and only numbers before its own.

@@ -1,22 +1,23 @@
 //! Rebuilding a lost packet (RFC 5109 9.1, 9.2).
 
-ghost use Rattle.std.specs.Prelude.{◌≡◌, ℕ, ◌<◌, bit_xor, if◌then◌else◌, ◌≤◌, [], ◌∷◌, ◌++◌, length, map, replicate, take, drop, slice_index, vec_len, Ok, Err, IfOk, nat_le};
+ghost use Rattle.std.specs.Prelude.{◌≡◌, ◌↔◌, ℕ, ◌<◌, bit_xor, if◌then◌else◌, ◌≤◌, [], ◌∷◌, ◌++◌, length, map, replicate, take, drop, slice_index, vec_len, Ok, Err, IfOk, IsErrOf, nat_le};
 ghost use Rattle.vrx_fec.specs.Mask.{is_named};
 ghost use Rattle.vrx_fec.specs.Parity.{Texts, body_of, mask_at, recovery, spans_of as spans_in};
-ghost use Rattle.vrx_fec.specs.Rebuilt.{IsOf, covered_by, header_of, rebuilt};
+ghost use Rattle.vrx_fec.specs.Rebuilt.{IsOf, covered, covered_by, header_of, rebuilt, rebuilt_length};
 ghost use Rattle.vrx_fec.specs.View.{view, view_level, view_rebuilt};
 
 use crate::fec::{Fec, Level};
 use crate::mask::is_named;
-use crate::parity::{add_octets, fields_of, xor_into};
+use crate::parity::{HEADER, MOST_TEXT, add_octets, fields_of, xor_into};
 use crate::span::{Span, spans_of};
 use std::alloc::Global;
 use std::marker::Model;
 use vrx_num::NoMemory;
+use vrx_num::limits::MOST_OCTETS;
 use vrx_num::slices::from;
 
-/// A rebuilt packet has at most so many octets after its first twelve.
-pub(crate) const MOST_REBUILT: usize = 9_204;
+/// A rebuilt packet has at most so many octets after its first twelve, and so no more than a datagram.
+pub(crate) const MOST_REBUILT: usize = MOST_OCTETS - HEADER;
 
 /// Why a packet isn't rebuilt, in the order in which it is tested.
 #[derive(Clone, Copy, Debug, PartialEq, Eq, thiserror::Error)]
@@ -65,8 +66,8 @@ impl Register {
 
     /// Adds the text of the packet at this offset from SN base.
     pub fn add(&mut self, fec: &Fec<'_>, offset: u8, text: &[u8])
-        requires at_least { 12 ≤ length text.now }
-        requires at_most { length text.now ≤ 65547 }
+        requires at_least { HEADER ≤ length text.now }
+        requires at_most { length text.now ≤ MOST_TEXT }
         ensures adds { (texts : Texts) → IsOf self.old (view fec.now) texts →
             IsOf self.new (view fec.now) ((offset, text.now) ∷ texts) }
     {
@@ -76,6 +77,22 @@ impl Register {
 
     /// The packet that is missing, at this offset from SN base and of this SSRC, once all others were added.
     pub fn finish(self, fec: &Fec<'_>, missing: u8, ssrc: u32) -> Result<Vec<u8>, RecoverFault>
+        ensures rebuilds { (texts : Texts) → IsOf self (view fec.now) texts →
+            view_rebuilt result ≡ rebuilt (view fec.now) texts missing ssrc }
+
+        // When it isn't rebuilt.
+        ensures bad_length { (texts : Texts) → IsOf self (view fec.now) texts →
+            (IsErrOf result RecoverFault.BadLength ↔ (MOST_REBUILT < rebuilt_length (view fec.now) texts)) }
+        ensures not_covered { (texts : Texts) → IsOf self (view fec.now) texts →
+            (IsErrOf result RecoverFault.NotCovered ↔
+            (rebuilt_length (view fec.now) texts ≤ MOST_REBUILT)
+            × (covered (view fec.now) missing < rebuilt_length (view fec.now) texts)) }
+    {
+        self.rebuild(fec, missing, ssrc)
+    }
+
+    /// The same, as a result that says all.
+    fn rebuild(self, fec: &Fec<'_>, missing: u8, ssrc: u32) -> Result<Vec<u8>, RecoverFault>
         ensures rebuilds { (texts : Texts) → IsOf self (view fec.now) texts →
             view_rebuilt result ≡ rebuilt (view fec.now) texts missing ssrc }
     {
@@ -103,8 +120,8 @@ fn add_to_text(to: &mut Vec<u8>, fec: &Fec<'_>, offset: u8, text: &[u8])
         else 0) }
 {
     let spans = spans_of(&fec.levels);
-    let (_room, body) = to.as_mut_slice().split_at_mut(12);
-    add_octets(body, spans.as_slice(), fec.long, offset, from(text, 12));
+    let (_room, body) = to.as_mut_slice().split_at_mut(HEADER);
+    add_octets(body, spans.as_slice(), fec.long, offset, from(text, HEADER));
 }
 
 /// Room for the first twelve octets of a packet, and the octets of all levels.
@@ -141,7 +158,7 @@ fn with_header(text: Vec<u8>, header: &[u8; 12], length: usize) -> Vec<u8>
     ensures { result.items ≡ header.now ++ take length (drop 12 text.items) }
 {
     let mut text = text;
-    text.truncate(12 + length);
+    text.truncate(HEADER + length);
     put_front(text.as_mut_slice(), header);
     text
 }
@@ -151,7 +168,7 @@ fn put_front(text: &mut [u8], header: &[u8; 12])
     requires { 12 ≤ length text.old }
     ensures { text.new ≡ header.now ++ drop 12 text.old }
 {
-    let (front, _rest) = text.split_at_mut(12);
+    let (front, _rest) = text.split_at_mut(HEADER);
     front.copy_from_slice(header);
 }
 

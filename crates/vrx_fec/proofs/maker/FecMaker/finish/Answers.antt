@@ -2,7 +2,7 @@ use Rattle.std.proofs.Common.{◌≡◌, ◌++◌, ◌∙◌, List, ℕ, ap, fal
 use Rattle.vrx_fec.specs.Made.{levels_of, made}
 use Rattle.vrx_fec.specs.Making.{head_of}
 use Rattle.vrx_fec.specs.Payload.{IsPayload, Payload, is_ahead, level_octets, octets_of}
-use Rattle.vrx_fec.proofs.MakerLemmas.{payload-made, payload-put}
+use Rattle.vrx_fec.proofs.MakerLemmas.{payload-put, true-read}
 use Rattle.vrx_fec.proofs.PayloadLemmas.{reading-payload}
 use Rattle.vrx_fec.proofs.maker.FecMaker.finish.Goals as goal
 
@@ -19,3 +19,8 @@ returns-clause-payload c own before =
 pub returns-clause-reads : goal.returns-clause-reads
 returns-clause-reads c own before =
     reading-payload c.put_levels.new.out.items own c.args.self (returns-clause-payload c own before)
+
+pub returns-clause-is_true : goal.returns-clause-is_true
+returns-clause-is_true c own texts before parity protects =
+    true-read c.put_levels.new.out.items own c.args.self texts (returns-clause-reads c own before)
+    (record { protects = protects; parity = parity })

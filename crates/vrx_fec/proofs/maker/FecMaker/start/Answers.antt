@@ -21,8 +21,12 @@ invariant_of-result c = record {
   first_field = omega arith;
   size = size c;
   empty = c.in_ok-with_capacity.ensures.items;
-  room = omega (arith, all c, c.in_ok-with_capacity.ensures.capacity,
-      planned-length c.args.levels.now c.spans_of_plan-spans.result.items c.spans_of_plan-spans.ensures.spans);
+  room = omega (
+    arith,
+    all c,
+    c.in_ok-with_capacity.ensures.capacity,
+    planned-length c.args.levels.now c.spans_of_plan-spans.result.items c.spans_of_plan-spans.ensures.spans,
+  );
 }
 
 pub returns-clause-starts : goal.returns-clause-starts
