@@ -1,9 +1,11 @@
 -- True parity and the other texts give the text that is missing.
-use Rattle.std.proofs.Common.{◌≡◌, ℕ, zero, suc, ◌+◌, ◌-◌, ◌*◌, ◌/◌, ◌%◌, ◌^◌, ◌<◌, ◌≤◌, Bool, true, false, cond, List, [], ◌∷◌, ◌++◌, length, map, take, drop, bit_and, bit_xor, Result, Ok, Err, refl, sym, ap, ◌∙◌, subst, inl, inr, arith}
+use Rattle.std.proofs.Common.{◌≡◌, ℕ, zero, suc, ◌+◌, ◌-◌, ◌*◌, ◌/◌, ◌%◌, ◌^◌, ◌<◌, ◌≤◌, Bool, true, false, cond, List, All, IsPermutation, [], ◌∷◌, ◌++◌, length, map, take, drop, bit_and, bit_xor, Result, Ok, Err, refl, sym, ap, ◌∙◌, subst, inl, inr, arith}
 use Rattle.std.specs.Prelude.{◌&&◌, ◌==◌, nat_lt, if◌then◌else◌, filter, slice_index}
 use Rattle.std.specs.Int.{w16, w32, to_be_bytes, from_be_bytes}
 use Rattle.std.specs.Int.Bits.{xor_assoc, xor_self, xor_zero_l, xor_zero_r}
 use Rattle.std.proofs.lemmas.Bool.{and_from, and_parts, cases_Bool, cases_lt, eq-eqb, eqb-true, le-ltb, true≢false}
+use Rattle.std.proofs.lemmas.List.Elements.{All-cons}
+use Rattle.std.proofs.lemmas.List.Sorted.{All-permutation}
 use Rattle.std.proofs.lemmas.List.{get_or-drop, length-drop, take_all}
 use Rattle.std.proofs.lemmas.Nat.{and_mod, and_shr, from_be_bytes-to_be_bytes_2, xor_comm}
 use Rattle.vrx_fec.specs.declared.register.RecoverFault.{RecoverFault}
@@ -11,8 +13,8 @@ use Rattle.vrx_fec.specs.declared.register.TheConstants.{MOST_REBUILT}
 use Rattle.vrx_fec.specs.declared.span.Span.{Span}
 use Rattle.vrx_fec.specs.Laws.{HasSize, IsFrom}
 use Rattle.vrx_fec.specs.Mask.{are_nested, is_named, is_within, numbers_from, width}
-use Rattle.vrx_fec.specs.Payload.{Level, Payload, first_mask, masks}
-use Rattle.vrx_fec.specs.Parity.{IsTrue, Texts, body_of, fields_of, mask_at, named, octet_at, recovery, span_of, spans_of, xor_of, xor_of_fields, xor_of_octets}
+use Rattle.vrx_fec.specs.Payload.{Level, Payload, first_mask, masks, protected}
+use Rattle.vrx_fec.specs.Parity.{IsTrue, Texts, body_of, fields_of, mask_at, named, octet_at, offsets_of, recovery, span_of, spans_of, xor_of, xor_of_fields, xor_of_octets}
 use Rattle.vrx_fec.specs.Rebuilt.{covered, covered_by, header_of, rebuilt, rebuilt_field, rebuilt_length, rebuilt_octet, rebuilt_text}
 use Rattle.vrx_fec.proofs.SumLemmas.{covered-within, fields-at, mask_at-first, mask_at-later, same-header, take-places}
 
@@ -22,57 +24,36 @@ use Rattle.vrx_fec.proofs.SumLemmas.{covered-within, fields-at, mask_at-first, m
 cancel : (x r : ℕ) → bit_xor (bit_xor x r) r ≡ x
 cancel x r = xor_assoc x r r ∙ ap (bit_xor x) (xor_self r) ∙ xor_zero_r x
 
--- the order of two is free
-swap : (x y r : ℕ) → bit_xor x (bit_xor y r) ≡ bit_xor y (bit_xor x r)
-swap x y r = sym (xor_assoc x y r) ∙ ap (λ z. bit_xor z r) (xor_comm x y) ∙ xor_assoc y x r
-
--- one of the texts before the others
-xor_of-pick : (part : List ℕ → ℕ) (before after : Texts) (t : ℕ × List ℕ)
-    → xor_of part (before ++ t ∷ after) ≡ bit_xor (part t.1) (xor_of part (before ++ after))
-xor_of-pick part [] after t = refl
-xor_of-pick part (b ∷ before) after t =
-    ap (bit_xor (part b.1)) (xor_of-pick part before after t)
-    ∙ swap (part b.1) (part t.1) (xor_of part (before ++ after))
-
--- what a mask names, if it names the one
-named-pick : (long : Bool) (mask : ℕ) (before after : Texts) (t : ℕ × List ℕ) → is_named long mask t.0 ≡ true
-    → named long mask (before ++ t ∷ after) ≡ named long mask before ++ t ∷ named long mask after
-named-pick long mask [] after t is = ap (λ b. cond b (t ∷ named long mask after) (named long mask after)) is
-named-pick long mask (b ∷ before) after t is =
-    let rest = named-pick long mask before after t is in
-    elim (is_named long mask b.0)
-    as (λ x. cond x (b ∷ named long mask (before ++ t ∷ after)) (named long mask (before ++ t ∷ after))
-    ≡ cond x (b ∷ named long mask before) (named long mask before) ++ t ∷ named long mask after) [
-      | true ↦ ap (λ ts. b ∷ ts) rest
-      | false ↦ rest
-    ]
-
-named-append : (long : Bool) (mask : ℕ) (before after : Texts)
-    → named long mask (before ++ after) ≡ named long mask before ++ named long mask after
-named-append long mask [] after = refl
-named-append long mask (b ∷ before) after =
-    let rest = named-append long mask before after in
-    elim (is_named long mask b.0)
-    as (λ x. cond x (b ∷ named long mask (before ++ after)) (named long mask (before ++ after))
-    ≡ cond x (b ∷ named long mask before) (named long mask before) ++ named long mask after) [
-      | true ↦ ap (λ ts. b ∷ ts) rest
-      | false ↦ rest
-    ]
-
 -- a place of parity and of the others gives the one's
-one-place : (part : List ℕ → ℕ) (before after : Texts) (t : ℕ × List ℕ) (parity : ℕ)
-    → parity ≡ xor_of part (before ++ t ∷ after) → bit_xor parity (xor_of part (before ++ after)) ≡ part t.1
-one-place part before after t parity is =
-    ap (λ x. bit_xor x (xor_of part (before ++ after))) (is ∙ xor_of-pick part before after t)
-    ∙ cancel (part t.1) (xor_of part (before ++ after))
+one-place : (part : List ℕ → ℕ) (others : Texts) (t : ℕ × List ℕ) (parity : ℕ)
+    → parity ≡ xor_of part (t ∷ others) → bit_xor parity (xor_of part others) ≡ part t.1
+one-place part others t parity is =
+    ap (λ x. bit_xor x (xor_of part others)) is ∙ cancel (part t.1) (xor_of part others)
 
-pub named-place : (part : List ℕ → ℕ) (long : Bool) (mask : ℕ) (before after : Texts) (t : ℕ × List ℕ) (parity : ℕ)
-    → is_named long mask t.0 ≡ true → parity ≡ xor_of part (named long mask (before ++ t ∷ after))
-    → bit_xor parity (xor_of part (named long mask (before ++ after))) ≡ part t.1
-named-place part long mask before after t parity names is =
-    ap (λ ts. bit_xor parity (xor_of part ts)) (named-append long mask before after)
-    ∙ one-place part (named long mask before) (named long mask after) t parity
-    (is ∙ ap (xor_of part) (named-pick long mask before after t names))
+-- the same of the texts that a mask names, if it names the one
+named-place : (part : List ℕ → ℕ) (long : Bool) (mask : ℕ) (others : Texts) (t : ℕ × List ℕ) (parity : ℕ)
+    → is_named long mask t.0 ≡ true → parity ≡ xor_of part (named long mask (t ∷ others))
+    → bit_xor parity (xor_of part (named long mask others)) ≡ part t.1
+named-place part long mask others t parity names is =
+    one-place part (named long mask others) t parity
+    (is ∙ ap (λ b. xor_of part (cond b (t ∷ named long mask others) (named long mask others))) names)
+
+-- what is protected is named by level 0
+All-taken : (test : ℕ → Bool) (n : ℕ) (ns : List ℕ) → All (λ m. test m ≡ true) ns → (b : Bool) → test n ≡ b
+    → All (λ m. test m ≡ true) (cond b (n ∷ ns) ns)
+All-taken test n ns rest true is = All-cons (λ m. test m ≡ true) n ns is rest
+All-taken test n ns rest false is = rest
+
+All-filter : (test : ℕ → Bool) (ns : List ℕ) → All (λ n. test n ≡ true) (filter test ns)
+All-filter test [] = λ i d lt. absurd (omega arith)
+All-filter test (n ∷ ns) = All-taken test n (filter test ns) (All-filter test ns) (test n) refl
+
+protected-named : (p : Payload) (texts : Texts) (t : ℕ × List ℕ) → IsPermutation (protected p) (offsets_of (t ∷ texts))
+    → is_named p.long (first_mask (masks p.levels)) t.0 ≡ true
+protected-named p texts t protects =
+    let test : ℕ → Bool = is_named p.long (first_mask (masks p.levels)) in
+    All-permutation (λ n. test n ≡ true) (protected p) (offsets_of (t ∷ texts)) protects
+    (All-filter test (numbers_from 0 (width p.long))) 0 0 (omega arith)
 
 -- ---- what is covered
 
@@ -147,14 +128,10 @@ module _ (long : Bool) (i : ℕ) where
 
 -- ---- what is rebuilt
 
-module _ (p : Payload) (before after : Texts) (offset : ℕ) (text : List ℕ)
-    (true_is : IsTrue p (before ++ (offset, text) ∷ after)) where
-  abbrev others : Texts
-  others = before ++ after
-
+module _ (p : Payload) (others : Texts) (offset : ℕ) (text : List ℕ) (true_is : IsTrue p ((offset, text) ∷ others)) where
   -- each field is the missing text's own
   field-own : (k : ℕ) → k < 8 → rebuilt_field p others k ≡ octet_at k (fields_of text)
-  field-own k lt = one-place (λ t. octet_at k (fields_of t)) before after (offset, text) (octet_at k (recovery p.head))
+  field-own k lt = one-place (λ t. octet_at k (fields_of t)) others (offset, text) (octet_at k (recovery p.head))
       (true_is.parity.fields k lt)
 
   pub length-own : HasSize text → rebuilt_length p others ≡ length text - 12
@@ -164,11 +141,11 @@ module _ (p : Payload) (before after : Texts) (offset : ℕ) (text : List ℕ)
       ∙ from_be_bytes-to_be_bytes_2 (length text - 12) size.at_most
 
   -- and so is each octet that is covered
-  pub octet-own : (k : ℕ) → k < length (body_of p.levels)
+  octet-own : (k : ℕ) → k < length (body_of p.levels)
       → is_named p.long (mask_at (spans_of p.levels) k) offset ≡ true
       → rebuilt_octet p others k ≡ octet_at (12 + k) text
   octet-own k within names =
-      named-place (λ t. octet_at (12 + k) t) p.long (mask_at (spans_of p.levels) k) before after (offset, text)
+      named-place (λ t. octet_at (12 + k) t) p.long (mask_at (spans_of p.levels) k) others (offset, text)
       (octet_at k (body_of p.levels)) names (true_is.parity.body k within)
 
 -- the header of a text, by its fields
@@ -190,24 +167,23 @@ covered-at : (long : Bool) (i : ℕ) (levels : List Level) (k : ℕ) → are_nes
 covered-at long i [] k nested names within = absurd (omega arith)
 covered-at long i (level ∷ levels) k nested names within = covered-named long i level levels k nested names within
 
-pub text-own : (p : Payload) (before after : Texts) (offset : ℕ) (text : List ℕ) (ssrc : ℕ)
-    → IsTrue p (before ++ (offset, text) ∷ after) → are_nested (masks p.levels) ≡ true
-    → is_named p.long (first_mask (masks p.levels)) offset ≡ true → HasSize text → IsFrom p offset ssrc text
-    → length text - 12 ≤ MOST_REBUILT → length text - 12 ≤ covered p offset
-    → rebuilt p (before ++ after) offset ssrc ≡ Ok text
-text-own p before after offset text ssrc true_is nested names size origin few within =
-    let others : Texts = before ++ after in
+pub text-own : (p : Payload) (others : Texts) (offset : ℕ) (text : List ℕ) (ssrc : ℕ)
+    → IsTrue p ((offset, text) ∷ others) → are_nested (masks p.levels) ≡ true → HasSize text
+    → IsFrom p offset ssrc text → length text - 12 ≤ MOST_REBUILT → length text - 12 ≤ covered p offset
+    → rebuilt p others offset ssrc ≡ Ok text
+text-own p others offset text ssrc true_is nested size origin few within =
+    let names = protected-named p others (offset, text) true_is.protects in
     let n : ℕ = length text - 12 in
     let number : ℕ = (p.base + offset) % 2 ^ 16 in
     let field : ℕ → ℕ = rebuilt_field p others in
     let octet : ℕ → ℕ = rebuilt_octet p others in
-    let len : rebuilt_length p others ≡ n = length-own p before after offset text true_is size in
+    let len : rebuilt_length p others ≡ n = length-own p others offset text true_is size in
     let rest_long : length (drop 12 text) ≡ n = length-drop 12 text in
     let at : (k : ℕ) → k < length (drop 12 text) → slice_index (drop 12 text) k ≡ octet k =
     λ k lt.
     let inside : k < covered p offset = omega (arith, rest_long) in
     get_or-drop 12 text k 0
-    ∙ sym (octet-own p before after offset text true_is k
+    ∙ sym (octet-own p others offset text true_is k
     (omega (arith, inside, covered-within p.long offset p.levels))
     (covered-at p.long offset p.levels k nested names inside)) in
     let body : map octet (numbers_from 0 n) ≡ drop 12 text =
@@ -215,7 +191,7 @@ text-own p before after offset text ssrc true_is nested names size origin few wi
     ∙ take_all n (drop 12 text) (omega (arith, rest_long)) in
     let fields : List ℕ = map field (numbers_from 0 8) in
     let own : (k : ℕ) → k < 8 → octet_at k fields ≡ octet_at k (fields_of text) =
-    λ k lt. sym (fields-at field (fields_of text) (λ j less. sym (field-own p before after offset text true_is j less)) k lt) in
+    λ k lt. sym (fields-at field (fields_of text) (λ j less. sym (field-own p others offset text true_is j less)) k lt) in
     let text_is : rebuilt_text p others offset ssrc ≡ text =
     ap (λ m. header_of fields number ssrc ++ map octet (numbers_from 0 m)) len
     ∙ ap (λ (x : List ℕ). header_of fields number ssrc ++ x) body

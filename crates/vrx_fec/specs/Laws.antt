@@ -1,14 +1,14 @@
 -- What holds of FEC payloads (RFC 5109 7 to 9), as statements.
-use Rattle.std.specs.Prelude.{◌≡◌, ◌↔◌, ℕ, ◌+◌, ◌-◌, ◌/◌, ◌%◌, ◌^◌, ◌<◌, ◌≤◌, true, List, [], ◌∷◌, ◌++◌, length, take, drop, Ok}
+use Rattle.std.specs.Prelude.{◌≡◌, ◌↔◌, ℕ, ◌+◌, ◌-◌, ◌/◌, ◌%◌, ◌^◌, ◌<◌, ◌≤◌, true, List, [], ◌∷◌, ◌++◌, length, take, drop, Ok, IsPermutation}
 use Rattle.std.specs.Int.{w16, w32, to_be_bytes}
 use Rattle.vrx_num.specs.Octets.{AreOctets}
 use Rattle.vrx_fec.specs.declared.parity.TheConstants.{HEADER}
 use Rattle.vrx_fec.specs.declared.register.TheConstants.{MOST_REBUILT}
-use Rattle.vrx_fec.specs.Mask.{is_named, are_nested}
-use Rattle.vrx_fec.specs.Payload.{Payload, IsPayload, first_mask, masks}
+use Rattle.vrx_fec.specs.Mask.{are_nested}
+use Rattle.vrx_fec.specs.Payload.{Payload, IsPayload, masks}
 use Rattle.vrx_fec.specs.Reading.{reading}
-use Rattle.vrx_fec.specs.Parity.{Texts, IsTrue, octet_at}
-use Rattle.vrx_fec.specs.Rebuilt.{covered, rebuilt, rebuilt_length}
+use Rattle.vrx_fec.specs.Parity.{Texts, IsParity, IsTrue, octet_at}
+use Rattle.vrx_fec.specs.Rebuilt.{IsOf, Sums, covered, rebuilt, rebuilt_length}
 
 -- reading gives a payload exactly if the octets are that payload
 abbrev pub ReadsPayloads : Type 0
@@ -28,15 +28,29 @@ pub record HasSize (text : List ℕ) : Type 0 where
 
 -- The length rebuilt from true parity and the other texts is that of the text that is missing, whatever the others' are.
 abbrev pub RebuildsLength : Type 0
-RebuildsLength = (p : Payload) (before after : Texts) (offset : ℕ) (text : List ℕ) →
-    IsTrue p (before ++ (offset, text) ∷ after) → HasSize text →
-    rebuilt_length p (before ++ after) ≡ length text - HEADER
+RebuildsLength = (p : Payload) (others : Texts) (offset : ℕ) (text : List ℕ) →
+    IsTrue p ((offset, text) ∷ others) → HasSize text → rebuilt_length p others ≡ length text - HEADER
 
 -- True parity and the other texts give the text that is missing, if its octets after the first twelve are not too many
 -- and are covered.
 abbrev pub Rebuilds : Type 0
-Rebuilds = (p : Payload) (before after : Texts) (offset : ℕ) (text : List ℕ) (ssrc : ℕ) →
-    IsTrue p (before ++ (offset, text) ∷ after) → are_nested (masks p.levels) ≡ true →
-    is_named p.long (first_mask (masks p.levels)) offset ≡ true → HasSize text → IsFrom p offset ssrc text →
-    length text - HEADER ≤ MOST_REBUILT → length text - HEADER ≤ covered p offset →
-    rebuilt p (before ++ after) offset ssrc ≡ Ok text
+Rebuilds = (p : Payload) (others : Texts) (offset : ℕ) (text : List ℕ) (ssrc : ℕ) →
+    IsTrue p ((offset, text) ∷ others) → are_nested (masks p.levels) ≡ true → HasSize text →
+    IsFrom p offset ssrc text → length text - HEADER ≤ MOST_REBUILT → length text - HEADER ≤ covered p offset →
+    rebuilt p others offset ssrc ≡ Ok text
+
+-- the texts may stand in any order: what is the parity of them, what is true for them, what a register of them has, and
+-- what is rebuilt from them stays
+abbrev pub KeepsParity : Type 0
+KeepsParity = (p : Payload) (texts turned : Texts) → IsPermutation texts turned → IsParity p texts → IsParity p turned
+
+abbrev pub KeepsTruth : Type 0
+KeepsTruth = (p : Payload) (texts turned : Texts) → IsPermutation texts turned → IsTrue p texts → IsTrue p turned
+
+abbrev pub KeepsSums : Type 0
+KeepsSums = (sums : Sums) (p : Payload) (texts turned : Texts) → IsPermutation texts turned → IsOf sums p texts →
+    IsOf sums p turned
+
+abbrev pub KeepsRebuilt : Type 0
+KeepsRebuilt = (p : Payload) (texts turned : Texts) (missing ssrc : ℕ) → IsPermutation texts turned →
+    rebuilt p turned missing ssrc ≡ rebuilt p texts missing ssrc

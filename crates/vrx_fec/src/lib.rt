@@ -20,7 +20,8 @@
 //!
 //! [`read_fec`] takes a payload apart. A [`Register`] of it adds up the packets that came, and gives the one that
 //! didn't. A [`FecMaker`] makes the payload of a plan. `specs/Payload.antt` has the form of a payload, `specs/Parity.antt`
-//! what is true, and `specs/Rebuilt.antt` what is rebuilt. [`one_payload`] and [`one_rebuilt`] have the laws.
+//! what is true, and `specs/Rebuilt.antt` what is rebuilt. [`one_payload`], [`one_rebuilt`]
+//! and [`any_order`] have the laws.
 #![tactic(auto)]
 
 mod fault;
@@ -35,7 +36,7 @@ mod span;
 
 pub use fault::{FecFault, FecFaultKind};
 pub use fec::{Fec, Level};
-pub use laws::{one_payload, one_rebuilt};
+pub use laws::{any_order, one_payload, one_rebuilt};
 pub use maker::{FecMaker, LevelPlan};
 pub use parity::xor_into;
 pub use reading::read_fec;
