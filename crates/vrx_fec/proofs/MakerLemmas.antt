@@ -1,17 +1,16 @@
 -- The payload of a maker's parts, and what is added to them.
-use Rattle.std.proofs.Common.{◌≡◌, ℕ, zero, suc, ◌+◌, ◌-◌, ◌*◌, ◌/◌, ◌%◌, ◌^◌, ◌<◌, ◌≤◌, Bool, true, false, cond, List, [], ◌∷◌, ◌++◌, All, length, map, replicate, take, drop, get_or, bit_xor, Result, Ok, refl, sym, ap, ◌∙◌, subst, arith}
+use Rattle.std.proofs.Common.{◌≡◌, ℕ, zero, suc, ◌+◌, ◌-◌, ◌/◌, ◌%◌, ◌^◌, ◌<◌, ◌≤◌, Bool, true, false, List, [], ◌∷◌, ◌++◌, All, length, map, replicate, take, drop, bit_xor, Result, Ok, refl, sym, ap, ◌∙◌, subst, arith}
 use Rattle.std.specs.Prelude.{◌==◌, if◌then◌else◌, slice_index, flat_map, IsOkAnd}
-use Rattle.std.specs.Int.{w16, from_be_bytes, to_be_bytes}
 use Rattle.std.proofs.lemmas.Bool.{eq-eqb, ne_eqb, true≢false}
-use Rattle.std.proofs.lemmas.List.{drop-replicate, get_or-drop, get_or-map, get_or-replicate, length-drop, length-map, length-replicate, length-take-le, nil_from_length, take-append-drop, take-replicate}
+use Rattle.std.proofs.lemmas.List.{drop-replicate, get_or-drop, get_or-replicate, length-drop, length-map, length-replicate, length-take-le, nil_from_length, take-append-drop, take-replicate}
 use Rattle.std.proofs.lemmas.Nat.{from_be_bytes-to_be_bytes_2, xor_comm}
 use Rattle.vrx_fec.specs.declared.fault.FecFault.{FecFault}
 use Rattle.vrx_fec.specs.declared.maker.LevelPlan.{LevelPlan}
 use Rattle.vrx_fec.specs.declared.span.Span.{Span}
-use Rattle.vrx_fec.specs.Made.{ArePlanned, IsMaker, levels_of, made, span_masks, total}
+use Rattle.vrx_fec.specs.Made.{ArePlanned, levels_of, made, span_masks, total}
 use Rattle.vrx_fec.specs.Making.{IsPlan, blank, blank_level, form_of, Form, head_of, plan_masks, span_in}
 use Rattle.vrx_fec.specs.Mask.{are_nested, is_named, width}
-use Rattle.vrx_fec.specs.Payload.{FitsLevel, IsPayload, Level, Payload, level_octets, base_in, first_mask, has_long_masks, is_ahead, masks, octets_of}
+use Rattle.vrx_fec.specs.Payload.{FitsLevel, IsPayload, Level, Payload, level_octets, first_mask, has_long_masks, is_ahead, masks, octets_of}
 use Rattle.vrx_fec.specs.Reading.{reading}
 use Rattle.vrx_fec.specs.Parity.{IsParity, IsTrue, Texts, body_of, fields_of, mask_at, named, octet_at, recovery, spans_of, xor_of_fields, xor_of_octets}
 use Rattle.vrx_fec.proofs.SumLemmas.{added, one-named}
@@ -133,9 +132,10 @@ total-zeros : (plan : List LevelPlan)
 total-zeros [] = refl
 total-zeros (level ∷ plan) =
     let rest : ℕ = total (map span_in plan) in
-    let front : take level.length (replicate (level.length + rest) 0) ≡ replicate level.length 0 =
-    take-replicate level.length (level.length + rest) 0 (omega arith) in
+    let within : level.length ≤ level.length + rest = omega arith in
     let left : level.length + rest - level.length ≡ rest = omega arith in
+    let front : take level.length (replicate (level.length + rest) 0) ≡ replicate level.length 0 =
+    take-replicate level.length (level.length + rest) 0 within in
     let back : drop level.length (replicate (level.length + rest) 0) ≡ replicate rest 0 =
     drop-replicate level.length (level.length + rest) 0 ∙ ap (λ (n : ℕ). replicate n 0) left in
     ap (λ (x : List ℕ). record { mask = level.mask; octets = x }

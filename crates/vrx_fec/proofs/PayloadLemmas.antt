@@ -1,18 +1,18 @@
 -- Reading gives a payload exactly if the octets are that payload.
-use Rattle.std.proofs.Common.{◌≡◌, ◌↔◌, ℕ, zero, suc, ◌+◌, ◌-◌, ◌*◌, ◌/◌, ◌%◌, ◌^◌, ◌<◌, ◌≤◌, Bool, true, false, cond, List, [], ◌∷◌, ◌++◌, length, map, take, drop, get_or, Option, None, Some, Result, Ok, Err, All, refl, sym, ap, ◌∙◌, subst, inl, inr, arith}
-use Rattle.std.specs.Prelude.{◌&&◌, ◌==◌, nat_lt, if◌then◌else◌, flat_map, IfOk, IsOkAnd}
+use Rattle.std.proofs.Common.{◌≡◌, ℕ, zero, suc, ◌+◌, ◌/◌, ◌%◌, ◌^◌, ◌<◌, ◌≤◌, Bool, true, false, cond, List, [], ◌∷◌, ◌++◌, length, take, drop, get_or, Option, None, Some, Result, Ok, Err, All, refl, sym, ap, ◌∙◌, subst, inl, inr, arith}
+use Rattle.std.specs.Prelude.{◌==◌, nat_lt, flat_map, IfOk, IsOkAnd}
 use Rattle.std.specs.Int.{w16, w64, to_be_bytes, from_be_bytes}
 use Rattle.std.proofs.lemmas.Bool.{and_parts, cases_lt, le-ltb, ltb-false}
-use Rattle.std.proofs.lemmas.List.{append_assoc, drop_at, get_or_past, get_or-append-add, length-append, length-take-le, take_at, take-append-drop}
+use Rattle.std.proofs.lemmas.List.{drop_at, get_or_past, get_or-append-add, length-append, length-take-le, take_at, take-append-drop}
 use Rattle.std.proofs.lemmas.Nat.{be_bytes_2, be_bytes_8, from_be_bytes-to_be_bytes_2, from_be_bytes-to_be_bytes_8}
 use Rattle.vrx_num.specs.Octets.{AreOctets}
 use Rattle.vrx_num.specs.ResultChain.{◌>>=◌}
 use Rattle.vrx_fec.specs.declared.fault.FecFault.{FecFault}
 use Rattle.vrx_fec.specs.declared.fault.FecFaultKind.TheVariants.{LevelPastEnd}
 use Rattle.vrx_fec.specs.declared.fec.Fec.{Fec}
-use Rattle.vrx_fec.specs.Mask.{are_nested, is_within, width}
-use Rattle.vrx_fec.specs.Payload.{FitsLevel, IsPayload, Level, Payload, base_in, first_mask, has_long_masks, is_ahead, level_octets, mask_octets, masks, octets_of}
-use Rattle.vrx_fec.specs.Reading.{fault, head_at, is_nested, level_at, level_header_at, level_of, level_size, levels_at, nested_at, next_level_at, payload_of, protecting, reading}
+use Rattle.vrx_fec.specs.Mask.{are_nested, is_within}
+use Rattle.vrx_fec.specs.Payload.{FitsLevel, IsPayload, Level, Payload, base_in, first_mask, has_long_masks, is_ahead, level_octets, mask_octets, masks}
+use Rattle.vrx_fec.specs.Reading.{fault, head_at, is_nested, level_at, level_of, level_size, levels_at, nested_at, next_level_at, payload_of, protecting, reading}
 use Rattle.vrx_fec.specs.View.{view, view_result}
 
 -- ---- octets

@@ -1,20 +1,19 @@
 -- True parity and the other texts give the text that is missing.
-use Rattle.std.proofs.Common.{◌≡◌, ℕ, zero, suc, ◌+◌, ◌-◌, ◌*◌, ◌/◌, ◌%◌, ◌^◌, ◌<◌, ◌≤◌, Bool, true, false, cond, List, All, IsPermutation, [], ◌∷◌, ◌++◌, length, map, take, drop, bit_and, bit_xor, Result, Ok, Err, refl, sym, ap, ◌∙◌, subst, inl, inr, arith}
-use Rattle.std.specs.Prelude.{◌&&◌, ◌==◌, nat_lt, if◌then◌else◌, filter, slice_index}
-use Rattle.std.specs.Int.{w16, w32, to_be_bytes, from_be_bytes}
-use Rattle.std.specs.Int.Bits.{xor_assoc, xor_self, xor_zero_l, xor_zero_r}
+use Rattle.std.proofs.Common.{◌≡◌, ℕ, ◌+◌, ◌-◌, ◌*◌, ◌/◌, ◌%◌, ◌^◌, ◌<◌, ◌≤◌, Bool, true, false, cond, List, All, IsPermutation, [], ◌∷◌, ◌++◌, length, map, take, drop, bit_and, bit_xor, Result, Ok, refl, sym, ap, ◌∙◌, subst, inl, inr, arith}
+use Rattle.std.specs.Prelude.{◌==◌, nat_lt, filter, slice_index}
+use Rattle.std.specs.Int.{w16, w32, to_be_bytes}
+use Rattle.std.specs.Int.Bits.{xor_assoc, xor_self, xor_zero_r}
 use Rattle.std.proofs.lemmas.Bool.{and_from, and_parts, cases_Bool, cases_lt, eq-eqb, eqb-true, le-ltb, true≢false}
 use Rattle.std.proofs.lemmas.List.Elements.{All-cons}
 use Rattle.std.proofs.lemmas.List.Sorted.{All-permutation}
 use Rattle.std.proofs.lemmas.List.{get_or-drop, length-drop, take_all}
-use Rattle.std.proofs.lemmas.Nat.{and_mod, and_shr, from_be_bytes-to_be_bytes_2, xor_comm}
+use Rattle.std.proofs.lemmas.Nat.{and_mod, and_shr, from_be_bytes-to_be_bytes_2}
 use Rattle.vrx_fec.specs.declared.register.RecoverFault.{RecoverFault}
 use Rattle.vrx_fec.specs.declared.register.TheConstants.{MOST_REBUILT}
-use Rattle.vrx_fec.specs.declared.span.Span.{Span}
 use Rattle.vrx_fec.specs.Laws.{HasSize, IsFrom}
 use Rattle.vrx_fec.specs.Mask.{are_nested, is_named, is_within, numbers_from, width}
 use Rattle.vrx_fec.specs.Payload.{Level, Payload, first_mask, masks, protected}
-use Rattle.vrx_fec.specs.Parity.{IsTrue, Texts, body_of, fields_of, mask_at, named, octet_at, offsets_of, recovery, span_of, spans_of, xor_of, xor_of_fields, xor_of_octets}
+use Rattle.vrx_fec.specs.Parity.{IsTrue, Texts, body_of, fields_of, mask_at, named, octet_at, offsets_of, recovery, span_of, spans_of, xor_of}
 use Rattle.vrx_fec.specs.Rebuilt.{covered, covered_by, header_of, rebuilt, rebuilt_field, rebuilt_length, rebuilt_octet, rebuilt_text}
 use Rattle.vrx_fec.proofs.SumLemmas.{covered-within, fields-at, mask_at-first, mask_at-later, same-header, take-places}
 

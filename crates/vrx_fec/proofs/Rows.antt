@@ -1,11 +1,9 @@
 -- FEC payloads (RFC 5109 7 to 9) on rows worked by hand.
-use Rattle.std.specs.Prelude.{◌≡◌, ℕ, true, false, List, [], ◌∷◌, ◌++◌, Result, refl, Ok, Err}
-use Rattle.vrx_fec.specs.declared.fault.FecFault.{FecFault}
+use Rattle.std.specs.Prelude.{◌≡◌, ℕ, true, false, List, [], ◌∷◌, ◌++◌, refl, Ok, Err}
 use Rattle.vrx_fec.specs.declared.fault.FecFaultKind.TheVariants.{Short, ManyLevels, LevelPastEnd, NotNested, NoneProtected, AheadOfSelf}
-use Rattle.vrx_fec.specs.declared.register.RecoverFault.TheVariants.{BadLength, NotCovered}
-use Rattle.vrx_fec.specs.Mask.{is_named, offsets}
+use Rattle.vrx_fec.specs.declared.register.RecoverFault.TheVariants.{NotCovered}
+use Rattle.vrx_fec.specs.Mask.{offsets}
 use Rattle.vrx_fec.specs.Payload.{Payload, octets_of}
-use Rattle.vrx_fec.specs.Parity.{recovery, xor_of_fields, xor_of_octets, spans_of}
 use Rattle.vrx_fec.specs.Reading.{fault, reading}
 use Rattle.vrx_fec.specs.Rebuilt.{covered, rebuilt}
 

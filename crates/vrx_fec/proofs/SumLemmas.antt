@@ -1,10 +1,9 @@
 -- The XOR at places of levels, and what a register of texts has.
 use Rattle.std.proofs.Common.{◌≡◌, ℕ, zero, suc, ◌+◌, ◌-◌, ◌*◌, ◌%◌, ◌^◌, ◌<◌, ◌≤◌, min, Bool, true, false, cond, List, [], ◌∷◌, ◌++◌, length, map, take, drop, get_or, slice_index, bit_xor, Result, Ok, Err, refl, sym, ap, ◌∙◌, subst, inl, inr, arith}
-use Rattle.std.specs.Prelude.{nat_lt, nat_le, ◌==◌, ◌↔◌, if◌then◌else◌, filter, IsErrOf, Vec}
+use Rattle.std.specs.Prelude.{nat_lt, nat_le, ◌==◌, ◌↔◌, if◌then◌else◌, IsErrOf, Vec}
 use Rattle.std.specs.List.{between}
 use Rattle.std.specs.Int.{w16, from_be_bytes}
-use Rattle.std.specs.Int.Bits.{xor_assoc, xor_self, xor_zero_l, xor_zero_r}
-use Rattle.std.proofs.Math.Nat.{min-eq_left, min-eq_right}
+use Rattle.std.specs.Int.Bits.{xor_assoc, xor_zero_l}
 use Rattle.std.proofs.lemmas.Bool.{cases_lt, eqb-false, leb-true, lt-ltb, le-ltb, ltb-false, ltb-true}
 use Rattle.std.proofs.lemmas.List.{ext_get_or, get_or_append_left, get_or-append_right, get_or-take, get_or-drop, get_or-map, length-append, length-drop, length-map, length-take-le}
 use Rattle.std.proofs.lemmas.Nat.{xor_comm, xor_lt}
@@ -15,7 +14,7 @@ use Rattle.vrx_fec.specs.declared.register.TheConstants.{MOST_REBUILT}
 use Rattle.vrx_fec.specs.declared.span.Span.{Span}
 use Rattle.vrx_fec.specs.Mask.{is_named, numbers_from}
 use Rattle.vrx_fec.specs.Payload.{Level, Payload}
-use Rattle.vrx_fec.specs.Parity.{Texts, body_of, fields_of, mask_at, named, octet_at, recovery, span_of, spans_of, xor_of, xor_of_fields, xor_of_octets}
+use Rattle.vrx_fec.specs.Parity.{Texts, body_of, fields_of, mask_at, named, octet_at, recovery, spans_of, xor_of, xor_of_fields, xor_of_octets}
 use Rattle.vrx_fec.specs.Rebuilt.{IsOf, Sums, covered, covered_by, header_of, rebuilt, rebuilt_field, rebuilt_length, rebuilt_octet, rebuilt_text}
 use Rattle.vrx_fec.specs.View.{view_rebuilt}
 

@@ -1,5 +1,5 @@
 -- What holds of FEC payloads (RFC 5109 7 to 9), as statements.
-use Rattle.std.specs.Prelude.{◌≡◌, ◌↔◌, ℕ, ◌+◌, ◌-◌, ◌/◌, ◌%◌, ◌^◌, ◌<◌, ◌≤◌, true, List, [], ◌∷◌, ◌++◌, length, take, drop, Ok, IsPermutation}
+use Rattle.std.specs.Prelude.{◌≡◌, ◌↔◌, ℕ, ◌+◌, ◌-◌, ◌/◌, ◌%◌, ◌^◌, ◌<◌, ◌≤◌, true, List, ◌∷◌, length, take, drop, Ok, IsPermutation}
 use Rattle.std.specs.Int.{w16, w32, to_be_bytes}
 use Rattle.vrx_num.specs.Octets.{AreOctets}
 use Rattle.vrx_fec.specs.declared.parity.TheConstants.{HEADER}

@@ -1,6 +1,6 @@
 -- The XOR of what a FEC packet protects (RFC 5109 8.1, 8.2), place by place over a list of texts. A text is a protected
 -- packet, from its RTP header on; it stands here with its offset from SN base.
-use Rattle.std.specs.Prelude.{◌≡◌, ℕ, ◌+◌, ◌-◌, ◌%◌, ◌<◌, Bool, nat_lt, if◌then◌else◌, bit_xor, List, [], ◌∷◌, ◌++◌, length, map, filter, flat_map, slice_index, IsPermutation}
+use Rattle.std.specs.Prelude.{◌≡◌, ℕ, ◌+◌, ◌-◌, ◌%◌, ◌<◌, Bool, nat_lt, if◌then◌else◌, bit_xor, List, [], ◌∷◌, length, map, filter, flat_map, slice_index, IsPermutation}
 use Rattle.std.specs.Int.{w16, to_be_bytes}
 use Rattle.vrx_fec.specs.declared.parity.TheConstants.{HEADER}
 use Rattle.vrx_fec.specs.declared.span.Span.{Span}

@@ -1,5 +1,5 @@
 -- The payload that octets are, or their first fault: what is read, level by level from the front (RFC 5109 7.3, 7.4).
-use Rattle.std.specs.Prelude.{ℕ, zero, suc, ◌+◌, ◌/◌, ◌%◌, Bool, true, false, ◌==◌, nat_lt, if◌then◌else◌, List, [], ◌∷◌, length, take, drop, Option, None, Some, Result, Ok, Err}
+use Rattle.std.specs.Prelude.{ℕ, zero, suc, ◌+◌, Bool, true, false, ◌==◌, nat_lt, if◌then◌else◌, List, [], ◌∷◌, length, take, drop, Option, None, Some, Result, Ok, Err}
 use Rattle.std.specs.Int.{w16, w64, from_be_bytes}
 use Rattle.vrx_num.specs.ResultChain.{◌>>=◌}
 use Rattle.vrx_fec.specs.declared.fault.FecFault.{FecFault}

@@ -1,4 +1,4 @@
-use Rattle.std.proofs.Common.{◌≡◌, ◌+◌, ◌<◌, length, sym, ◌∙◌, arith}
+use Rattle.std.proofs.Common.{◌<◌, length, sym, ◌∙◌, arith}
 use Rattle.vrx_fec.proofs.ReadingLemmas.{has-room, one-more, one-err}
 use Rattle.vrx_fec.proofs.reading.levels_of.Goals as goal
 

@@ -1,4 +1,4 @@
-use Rattle.std.proofs.Common.{◌≡◌, None, map, ◌+◌, ◌-◌, ◌≤◌, ◌++◌, length}
+use Rattle.std.proofs.Common.{◌≡◌, None, map, ◌+◌, ◌-◌, ◌++◌, length}
 use Rattle.vrx_fec.specs.declared.fec.TheConstants.{HEAD}
 use Rattle.vrx_fec.specs.Reading.{levels_at}
 use Rattle.vrx_fec.specs.View.{view_level, result_by}

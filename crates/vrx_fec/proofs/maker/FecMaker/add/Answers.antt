@@ -1,8 +1,6 @@
 use Rattle.std.proofs.Common.{◌≡◌, ◌<◌, ◌∙◌, ℕ, ◌∷◌, bit_xor, length, slice_index, arith, rules, ap, drop, subst, sym}
-use Rattle.std.specs.Prelude.{if◌then◌else◌}
-use Rattle.vrx_fec.specs.Made.{levels_of, total}
-use Rattle.vrx_fec.specs.Making.{Form, form_of}
-use Rattle.vrx_fec.specs.Mask.{is_named}
+use Rattle.vrx_fec.specs.Made.{total}
+use Rattle.vrx_fec.specs.Making.{form_of}
 use Rattle.vrx_fec.specs.Parity.{IsParity, fields_of, mask_at}
 use Rattle.vrx_fec.specs.Payload.{Payload}
 use Rattle.vrx_fec.proofs.MakerLemmas.{made-form, made-parity, parity-made, parity-more}

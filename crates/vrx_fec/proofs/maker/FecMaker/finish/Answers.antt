@@ -1,7 +1,5 @@
-use Rattle.std.proofs.Common.{◌≡◌, ◌++◌, ◌∙◌, List, ℕ, ap, false, flat_map, subst, sym}
-use Rattle.vrx_fec.specs.Made.{levels_of, made}
-use Rattle.vrx_fec.specs.Making.{head_of}
-use Rattle.vrx_fec.specs.Payload.{IsPayload, Payload, is_ahead, level_octets, octets_of}
+use Rattle.std.proofs.Common.{◌≡◌, false, subst, sym}
+use Rattle.vrx_fec.specs.Payload.{IsPayload, Payload, is_ahead}
 use Rattle.vrx_fec.proofs.MakerLemmas.{payload-put, true-read}
 use Rattle.vrx_fec.proofs.PayloadLemmas.{reading-payload}
 use Rattle.vrx_fec.proofs.maker.FecMaker.finish.Goals as goal

@@ -1,4 +1,4 @@
-use Rattle.std.proofs.Common.{◌≡◌, ◌∙◌, ℕ, List, [], length, replicate, arith, ap}
+use Rattle.std.proofs.Common.{◌≡◌, ◌∙◌, ℕ, [], length, replicate, arith, ap}
 use Rattle.vrx_fec.specs.Made.{total}
 use Rattle.vrx_fec.proofs.MakerLemmas.{are-planned, made-blank, none-added, parity-made, planned-length, zeros-length}
 use Rattle.vrx_fec.proofs.maker.FecMaker.start.Goals as goal

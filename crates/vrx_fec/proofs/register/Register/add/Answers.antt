@@ -1,4 +1,4 @@
-use Rattle.std.proofs.Common.{◌≡◌, ◌<◌, ◌∙◌, ap, drop, length, slice_index, bit_xor, arith, rules, subst, sym}
+use Rattle.std.proofs.Common.{◌≡◌, ◌∙◌, ap, drop, length, slice_index, bit_xor, arith, rules, subst, sym}
 use Rattle.std.proofs.lemmas.List.{length-drop}
 use Rattle.vrx_fec.specs.Rebuilt.{IsOf}
 use Rattle.vrx_fec.specs.View.{view}

@@ -1,4 +1,4 @@
-use Rattle.std.proofs.Common.{◌≡◌, ◌+◌, ◌%◌, ◌^◌, ◌∙◌, ap, drop, subst, sym}
+use Rattle.std.proofs.Common.{◌+◌, ◌%◌, ◌^◌, ◌∙◌, ap, drop, subst, sym}
 use Rattle.vrx_fec.specs.Rebuilt.{IsOf}
 use Rattle.vrx_fec.specs.View.{view}
 use Rattle.vrx_fec.proofs.SumLemmas.{finished}
