@@ -105,7 +105,8 @@ module _ (long : Bool) (base : ℕ) (spans : List Span) (fields body : List ℕ)
   }
 
 -- one text more
-pub parity-more : (long : Bool) (spans : List Span) (texts : Texts) (offset : ℕ) (text fields fields_new body body_new : List ℕ)
+pub parity-more : (long : Bool) (spans : List Span) (texts : Texts) (offset : ℕ)
+    (text fields fields_new body body_new : List ℕ)
     → HasParity long spans fields body texts → length body_new ≡ length body
     → ((k : ℕ) → k < 8 → slice_index fields_new k ≡ bit_xor (slice_index fields k) (slice_index (fields_of text) k))
     → ((k : ℕ) → k < length body → slice_index body_new k ≡
@@ -186,10 +187,11 @@ are-planned long plan spans spans_are is sizes =
 
 -- a mask that names the first offset isn't 0
 named-some : (long : Bool) (mask : ℕ) → is_named long mask 0 ≡ true → (mask == 0) ≡ false
-named-some long mask names = ne_eqb mask 0 (λ none. none-named long (subst (λ m. is_named long m 0 ≡ true) none names)) where
-  none-named : (b : Bool) → is_named b 0 0 ≡ true → ⊥
-  none-named true is = true≢false (sym is)
-  none-named false is = true≢false (sym is)
+named-some long mask names = ne_eqb mask 0
+    (λ none. none-named long (subst (λ m. is_named long m 0 ≡ true) none names)) where
+      none-named : (b : Bool) → is_named b 0 0 ≡ true → ⊥
+      none-named true is = true≢false (sym is)
+      none-named false is = true≢false (sym is)
 
 pub payload-made : (long : Bool) (base own : ℕ) (spans : List Span) (fields body : List ℕ) → ArePlanned long spans
     → base < 2 ^ 16 → octet_at 0 fields < 64 → length body ≡ total spans
@@ -235,7 +237,8 @@ made-form long base spans fields fields_new body body_new size size_new =
     ap (λ (s : List Span). let f : Form = record { long = long; base = base; spans = s } in f)
     (spans-levels_of spans body_new size_new ∙ sym (spans-levels_of spans body size))
 
-pub planned-length : (plan : List LevelPlan) (spans : List Span) → spans ≡ map span_in plan → length spans ≡ length plan
+pub planned-length : (plan : List LevelPlan) (spans : List Span) → spans ≡ map span_in plan
+    → length spans ≡ length plan
 planned-length plan spans is = ap length is ∙ length-map plan span_in
 
 pub zeros-length : (spans : List Span) (body : List ℕ) (size : ℕ) → body ≡ replicate size 0 → size ≡ total spans

@@ -127,13 +127,15 @@ module _ (texts turned : Texts) (order : IsPermutation texts turned) where
       ap (λ n. n * 256 + rebuilt_field p turned 7) (field-order p 6)
       ∙ ap (λ n. rebuilt_field p texts 6 * 256 + n) (field-order p 7)
 
-  text-order : (p : Payload) (missing ssrc : ℕ) → rebuilt_text p turned missing ssrc ≡ rebuilt_text p texts missing ssrc
+  text-order : (p : Payload) (missing ssrc : ℕ)
+      → rebuilt_text p turned missing ssrc ≡ rebuilt_text p texts missing ssrc
   text-order p missing ssrc =
       let number : ℕ = (p.base + missing) % 2 ^ 16 in
       ap (λ fs. header_of fs number ssrc ++ map (rebuilt_octet p turned) (numbers_from 0 (rebuilt_length p turned)))
       (map-order (rebuilt_field p turned) (rebuilt_field p texts) (field-order p) (numbers_from 0 8))
       ∙ ap (λ os. header_of (map (rebuilt_field p texts) (numbers_from 0 8)) number ssrc ++ os)
-      (map-order (rebuilt_octet p turned) (rebuilt_octet p texts) (octet-order p) (numbers_from 0 (rebuilt_length p turned)))
+      (map-order (rebuilt_octet p turned) (rebuilt_octet p texts) (octet-order p)
+      (numbers_from 0 (rebuilt_length p turned)))
       ∙ ap (λ n. header_of (map (rebuilt_field p texts) (numbers_from 0 8)) number ssrc
       ++ map (rebuilt_octet p texts) (numbers_from 0 n)) (length-order p)
 

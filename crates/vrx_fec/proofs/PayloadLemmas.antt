@@ -73,7 +73,8 @@ pub record IsCut (long : Bool) (octets : List ℕ) (x : Level × List ℕ) : Typ
   pub fits : FitsLevel long x.0
 
 sized : (offset size mask : ℕ) (rest : List ℕ) (b : Bool) (x : Level × List ℕ) → nat_lt (length rest) size ≡ b
-    → cond b (Err (fault LevelPastEnd offset)) (Ok (record { mask = mask; octets = take size rest }, drop size rest)) ≡ Ok x
+    → cond b (Err (fault LevelPastEnd offset)) (Ok (record { mask = mask; octets = take size rest }, drop size rest))
+    ≡ Ok x
     → (size ≤ length rest) × ((record { mask = mask; octets = take size rest }, drop size rest) ≡ x)
 sized offset size mask rest true x is e = absurd cc
 sized offset size mask rest false x is e = (ltb-false _ _ is, cc)
@@ -117,7 +118,8 @@ cut-long offset (l1 ∷ l0 ∷ m5 ∷ m4 ∷ m3 ∷ m2 ∷ m1 ∷ m0 ∷ rest) x
     let long : length (take size rest) ≡ size = length-take-le size rest cut.0 in
     subst (λ (y : Level × List ℕ). IsCut true (l1 ∷ l0 ∷ m5 ∷ m4 ∷ m3 ∷ m2 ∷ m1 ∷ m0 ∷ rest) y) cut.1 (record {
       spelled = sym (ap (λ n. (to_be_bytes w16 n ++ mask_octets true mask ++ take size rest) ++ drop size rest) long
-          ∙ ap (λ (t : List ℕ). (t ++ mask_octets true mask ++ take size rest) ++ drop size rest) (two_are l1 l0 b0 b1)
+          ∙ ap (λ (t : List ℕ). (t ++ mask_octets true mask ++ take size rest) ++ drop size rest)
+          (two_are l1 l0 b0 b1)
           ∙ ap (λ (t : List ℕ). ((l1 ∷ l0 ∷ []) ++ t ++ take size rest) ++ drop size rest)
           (six_are m5 m4 m3 m2 m1 m0 c5 c4 c3 c2 c1 c0)
           ∙ ap (λ (t : List ℕ). l1 ∷ l0 ∷ m5 ∷ m4 ∷ m3 ∷ m2 ∷ m1 ∷ m0 ∷ t) (take-append-drop size rest));
@@ -132,7 +134,8 @@ cut-level false offset octets x bytes e = cut-short offset octets x bytes e
 
 -- what a level spells is read as the level
 whole : (offset mask : ℕ) (octets rest : List ℕ)
-    → level_of offset (Some (length octets, mask, octets ++ rest)) ≡ Ok (record { mask = mask; octets = octets }, rest)
+    → level_of offset (Some (length octets, mask, octets ++ rest))
+    ≡ Ok (record { mask = mask; octets = octets }, rest)
 whole offset mask octets rest =
     let fits : nat_lt (length (octets ++ rest)) (length octets) ≡ false =
     le-ltb (length (octets ++ rest)) (length octets) (omega (arith, length-append octets rest)) in
@@ -159,7 +162,12 @@ six_again mask fits =
 again-long : (offset : ℕ) (level : Level) (rest : List ℕ) → FitsLevel true level
     → level_at true offset (level_octets true level ++ rest) ≡ Ok (level, rest)
 again-long offset level rest fits =
-    ap (λ n. level_of offset (Some (n, from_be_bytes w64 (0 ∷ 0 ∷ drop 2 (to_be_bytes w64 level.mask)), level.octets ++ rest)))
+    ap (λ n. level_of offset (Some (
+      n,
+      from_be_bytes w64
+          (0 ∷ 0 ∷ drop 2 (to_be_bytes w64 level.mask)),
+      level.octets ++ rest,
+    )))
     (from_be_bytes-to_be_bytes_2 (length level.octets) fits.size)
     ∙ ap (λ n. level_of offset (Some (length level.octets, n, level.octets ++ rest)))
     (six_again level.mask fits.mask)
@@ -184,7 +192,8 @@ abbrev nested_from : Option ℕ → List ℕ → Bool
 nested_from None ms = are_nested ms
 nested_from (Some before) ms = are_nested (before ∷ ms)
 
-nested-more : (before : Option ℕ) (mask : ℕ) (ms : List ℕ) → is_nested before mask ≡ true → are_nested (mask ∷ ms) ≡ true
+nested-more : (before : Option ℕ) (mask : ℕ) (ms : List ℕ) → is_nested before mask ≡ true
+    → are_nested (mask ∷ ms) ≡ true
     → nested_from before (mask ∷ ms) ≡ true
 nested-more None mask ms is rest = rest
 nested-more (Some before) mask ms is rest = rw (is, rest) refl
@@ -211,7 +220,13 @@ record AreCut (more : ℕ) (long : Bool) (before : Option ℕ) (octets : List �
   pub nested : nested_from before (masks levels) ≡ true
 
 no-levels : (more : ℕ) (long : Bool) (before : Option ℕ) → AreCut more long before [] []
-no-levels more long None = record { spelled = refl; few = omega arith; fits = λ i d lt. absurd (omega arith); nested = refl }
+no-levels more long None = record {
+  spelled = refl;
+  few = omega arith;
+  fits = λ i d lt. absurd
+      (omega arith);
+  nested = refl;
+}
 no-levels more long (Some b) =
     record { spelled = refl; few = omega arith; fits = λ i d lt. absurd (omega arith); nested = refl }
 
@@ -233,7 +248,8 @@ same_levels xs ys e = cc
 
 cut-levels : (more : ℕ) (long : Bool) (before : Option ℕ) (at : ℕ) (octets : List ℕ) (levels : List Level)
     → IsBytes octets → levels_at more long before at octets ≡ Ok levels → AreCut more long before octets levels
-cut-levels zero long before at [] levels bytes e = subst (AreCut zero long before []) (same_levels [] levels e) (no-levels zero long before)
+cut-levels zero long before at [] levels bytes e = subst (AreCut zero long before []) (same_levels [] levels e)
+    (no-levels zero long before)
 cut-levels zero long before at (o ∷ octets) levels bytes e = absurd cc
 cut-levels (suc more) long before at [] levels bytes e =
     subst (AreCut (suc more) long before []) (same_levels [] levels e) (no-levels (suc more) long before)
@@ -267,7 +283,8 @@ again-levels (suc more) long before at (level ∷ levels) few fits nested =
     let next : next_level_at long before at (level_octets long level ++ rest) ≡ Ok (level, rest) =
     ap (λ r. r >>= nested_at before at) (again-level long at level rest (fits 0 level (omega arith))) ∙ inside in
     ap (λ r. r >>= after_first more long at) next
-    ∙ ap (λ r. r >>= λ ls. levels_read (level ∷ ls)) (again-levels more long (Some level.mask) (at + level_size long level) levels
+    ∙ ap (λ r. r >>= λ ls. levels_read (level ∷ ls))
+    (again-levels more long (Some level.mask) (at + level_size long level) levels
     (omega arith) (All-rest (FitsLevel long) level levels fits) parts.1)
 
 -- ---- the payload
@@ -284,7 +301,8 @@ head-ok : (b : Bool) (octets : List ℕ) (x : List ℕ × List ℕ) (fault : Fec
 head-ok true octets x fault is e = absurd cc
 head-ok false octets x fault is e = (ltb-false _ _ is, cc)
 
-protecting-ok : (none ahead : Bool) (p q : Payload) (f g : FecFault) → cond none (Err f) (cond ahead (Err g) (Ok q)) ≡ Ok p
+protecting-ok : (none ahead : Bool) (p q : Payload) (f g : FecFault)
+    → cond none (Err f) (cond ahead (Err g) (Ok q)) ≡ Ok p
     → (none ≡ false) × (ahead ≡ false) × (q ≡ p)
 protecting-ok true ahead p q f g e = absurd cc
 protecting-ok false true p q f g e = absurd cc
@@ -333,7 +351,8 @@ reading-payload octets own p is =
     let front : head_at (p.head ++ rest) ≡ Ok (p.head, rest) =
     rw (long_enough, take_at p.head rest 10 is.head, drop_at p.head rest 10 is.head) refl in
     let levels : levels_at 8 (has_long_masks p.head) None 10 rest ≡ Ok p.levels =
-    ap (λ b. levels_at 8 b None 10 rest) (sym is.long) ∙ again-levels 8 p.long None 10 p.levels is.few is.fits is.nested in
+    ap (λ b. levels_at 8 b None 10 rest) (sym is.long)
+    ∙ again-levels 8 p.long None 10 p.levels is.few is.fits is.nested in
     let last : protecting own p ≡ Ok p = rw (is.protects, is.before) refl in
     ap (λ x. reading x own) is.spelled
     ∙ ap (λ r. r >>= after_head own) front
@@ -348,7 +367,8 @@ pub payload-read : (octets : List ℕ) (own : ℕ) (r : Result Fec FecFault) →
 payload-read octets own (Ok fec) are reads = payload-reading octets own (view fec) are (sym reads)
 payload-read octets own (Err e) are reads = tt
 
-pub only-read : (octets : List ℕ) (own : ℕ) (r : Result Fec FecFault) (p : Payload) → view_result r ≡ reading octets own
+pub only-read : (octets : List ℕ) (own : ℕ) (r : Result Fec FecFault) (p : Payload)
+    → view_result r ≡ reading octets own
     → IsPayload octets own p → IsOkAnd r (λ fec. view fec ≡ p)
 only-read octets own (Ok fec) p reads is =
     let e : payload_read (view fec) ≡ payload_read p = reads ∙ reading-payload octets own p is in cc

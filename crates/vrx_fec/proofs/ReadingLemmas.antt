@@ -20,7 +20,8 @@ append-more : (seen : List Level) (level : Level) (r : Result (List Level) FecFa
     → result_by (λ levels. seen ++ levels) (r >>= λ levels. Ok (level ∷ levels))
     ≡ result_by (λ levels. (seen ++ level ∷ []) ++ levels) r
 append-more seen level (Ok levels) =
-    ap (λ (x : List Level). let r : Result (List Level) FecFault = Ok x in r) (sym (append_assoc seen (level ∷ []) levels))
+    ap (λ (x : List Level). let r : Result (List Level) FecFault = Ok x in r)
+    (sym (append_assoc seen (level ∷ []) levels))
 append-more seen level (Err e) = refl
 
 module _ (long : Bool) (before : Option ℕ) (at : ℕ) where
@@ -62,7 +63,8 @@ module _ (long : Bool) (before : Option ℕ) (at : ℕ) where
 
   pub one-err : (items : List LevelSeen) (octets : List ℕ) (e : FecFault) → length items < 8 → 0 < length octets
       → next_level_at long before at octets ≡ Err e
-      → result_by (λ levels. map view_level items ++ levels) (levels_at (8 - length items) long before at octets) ≡ Err e
+      → result_by (λ levels. map view_level items ++ levels) (levels_at (8 - length items) long before at octets)
+      ≡ Err e
   one-err items octets e few some is =
       let count : 8 - length items ≡ suc (7 - length items) = omega arith in
       ap (λ n. result_by (λ levels. map view_level items ++ levels) (levels_at n long before at octets)) count
@@ -76,7 +78,8 @@ pub ahead-near : (own : ℕ) (p : Payload) (d mask : ℕ) (names : Bool) → d �
     → names ≡ is_ahead own p
 ahead-near own p d mask names d_is near mask_is names_is =
     let test : ℕ → Bool = λ n. not (list_all (λ i. nat_lt i n) (protected p)) in
-    let far : nat_le HALF_SPACE (distance own p.base) ≡ false = lt-leb HALF_SPACE (distance own p.base) (omega arith) in
+    let far : nat_le HALF_SPACE (distance own p.base)
+    ≡ false = lt-leb HALF_SPACE (distance own p.base) (omega arith) in
     names_is ∙ ap (λ m. not (list_all (λ i. nat_lt i d) (offsets p.long m))) mask_is ∙ ap test d_is
     ∙ ap (λ b. b || test (distance own p.base)) (sym far)
 

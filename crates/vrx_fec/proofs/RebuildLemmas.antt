@@ -1,6 +1,6 @@
 -- True parity and the other texts give the text that is missing.
-use Rattle.std.proofs.Common.{◌≡◌, ℕ, ◌+◌, ◌-◌, ◌*◌, ◌/◌, ◌%◌, ◌^◌, ◌<◌, ◌≤◌, Bool, true, false, cond, List, All, IsPermutation, [], ◌∷◌, ◌++◌, length, map, take, drop, bit_and, bit_xor, Result, Ok, refl, sym, ap, ◌∙◌, subst, inl, inr, arith}
-use Rattle.std.specs.Prelude.{◌==◌, nat_lt, filter, slice_index}
+use Rattle.std.proofs.Common.{◌≡◌, ℕ, ◌+◌, ◌-◌, ◌*◌, ◌/◌, ◌%◌, ◌^◌, ◌<◌, ◌≤◌, Bool, true, false, cond, List, All, IsPermutation, [], ◌∷◌, ◌++◌, length, map, take, drop, bit_and, bit_xor, Result, Ok, Err, refl, sym, ap, ◌∙◌, subst, inl, inr, arith}
+use Rattle.std.specs.Prelude.{◌==◌, nat_lt, filter, slice_index, IsOkAnd, Vec}
 use Rattle.std.specs.Int.{w16, w32, to_be_bytes}
 use Rattle.std.specs.Int.Bits.{xor_assoc, xor_self, xor_zero_r}
 use Rattle.std.proofs.lemmas.Bool.{and_from, and_parts, cases_Bool, cases_lt, eq-eqb, eqb-true, le-ltb, true≢false}
@@ -10,11 +10,12 @@ use Rattle.std.proofs.lemmas.List.{get_or-drop, length-drop, take_all}
 use Rattle.std.proofs.lemmas.Nat.{and_mod, and_shr, from_be_bytes-to_be_bytes_2}
 use Rattle.vrx_fec.specs.declared.register.RecoverFault.{RecoverFault}
 use Rattle.vrx_fec.specs.declared.register.TheConstants.{MOST_REBUILT}
-use Rattle.vrx_fec.specs.Laws.{HasSize, IsFrom}
+use Rattle.vrx_fec.specs.Rebuilt.{HasSize, IsFrom, IsRebuildable}
 use Rattle.vrx_fec.specs.Mask.{are_nested, is_named, is_within, numbers_from, width}
 use Rattle.vrx_fec.specs.Payload.{Level, Payload, first_mask, masks, protected}
 use Rattle.vrx_fec.specs.Parity.{IsTrue, Texts, body_of, fields_of, mask_at, named, octet_at, offsets_of, recovery, span_of, spans_of, xor_of}
 use Rattle.vrx_fec.specs.Rebuilt.{covered, covered_by, header_of, rebuilt, rebuilt_field, rebuilt_length, rebuilt_octet, rebuilt_text}
+use Rattle.vrx_fec.specs.View.{view_rebuilt}
 use Rattle.vrx_fec.proofs.SumLemmas.{covered-within, fields-at, mask_at-first, mask_at-later, same-header, take-places}
 
 -- ---- one text out of a list
@@ -47,7 +48,8 @@ All-filter : (test : ℕ → Bool) (ns : List ℕ) → All (λ n. test n ≡ tru
 All-filter test [] = λ i d lt. absurd (omega arith)
 All-filter test (n ∷ ns) = All-taken test n (filter test ns) (All-filter test ns) (test n) refl
 
-protected-named : (p : Payload) (texts : Texts) (t : ℕ × List ℕ) → IsPermutation (protected p) (offsets_of (t ∷ texts))
+protected-named : (p : Payload) (texts : Texts) (t : ℕ × List ℕ)
+    → IsPermutation (protected p) (offsets_of (t ∷ texts))
     → is_named p.long (first_mask (masks p.levels)) t.0 ≡ true
 protected-named p texts t protects =
     let test : ℕ → Bool = is_named p.long (first_mask (masks p.levels)) in
@@ -81,7 +83,8 @@ within-named long mask other i inside names =
     (eq-eqb (other / 2 ^ j % 2) 1 (bit-within (mask / 2 ^ j) (other / 2 ^ j) one (ap (λ n. n % 2) shifted)))
 
 -- if a mask doesn't name it, none that follows does, and nothing is covered
-covered-none : (long : Bool) (i : ℕ) (level : Level) (levels : List Level) → are_nested (masks (level ∷ levels)) ≡ true
+covered-none : (long : Bool) (i : ℕ) (level : Level) (levels : List Level)
+    → are_nested (masks (level ∷ levels)) ≡ true
     → is_named long level.mask i ≡ false → covered_by long (spans_of (level ∷ levels)) i ≡ 0
 covered-none long i level [] nested not_named = rw not_named refl
 covered-none long i level (next ∷ levels) nested not_named =
@@ -127,7 +130,8 @@ module _ (long : Bool) (i : ℕ) where
 
 -- ---- what is rebuilt
 
-module _ (p : Payload) (others : Texts) (offset : ℕ) (text : List ℕ) (true_is : IsTrue p ((offset, text) ∷ others)) where
+module _ (p : Payload) (others : Texts) (offset : ℕ) (text : List ℕ)
+    (true_is : IsTrue p ((offset, text) ∷ others)) where
   -- each field is the missing text's own
   field-own : (k : ℕ) → k < 8 → rebuilt_field p others k ≡ octet_at k (fields_of text)
   field-own k lt = one-place (λ t. octet_at k (fields_of t)) others (offset, text) (octet_at k (recovery p.head))
@@ -148,15 +152,19 @@ module _ (p : Payload) (others : Texts) (offset : ℕ) (text : List ℕ) (true_i
       (octet_at k (body_of p.levels)) names (true_is.parity.body k within)
 
 -- the header of a text, by its fields
-pub header-own : (fields text : List ℕ) (number ssrc : ℕ) → ((k : ℕ) → k < 8 → octet_at k fields ≡ octet_at k (fields_of text))
+pub header-own : (fields text : List ℕ) (number ssrc : ℕ)
+    → ((k : ℕ) → k < 8 → octet_at k fields ≡ octet_at k (fields_of text))
     → 12 ≤ length text → octet_at 0 text / 64 ≡ 2 → take 2 (drop 2 text) ≡ to_be_bytes w16 number
     → take 4 (drop 8 text) ≡ to_be_bytes w32 ssrc → header_of fields number ssrc ++ drop 12 text ≡ text
-header-own fields (t0 ∷ t1 ∷ t2 ∷ t3 ∷ t4 ∷ t5 ∷ t6 ∷ t7 ∷ t8 ∷ t9 ∷ t10 ∷ t11 ∷ rest) number ssrc own long version number_is source =
+header-own fields (t0 ∷ t1 ∷ t2 ∷ t3 ∷ t4 ∷ t5 ∷ t6 ∷ t7 ∷ t8 ∷ t9 ∷ t10 ∷ t11 ∷ rest) number ssrc own long version
+    number_is source =
     let first : 128 + t0 % 64 ≡ t0 = omega (arith, version) in
     let all : List ℕ = t0 ∷ t1 ∷ t2 ∷ t3 ∷ t4 ∷ t5 ∷ t6 ∷ t7 ∷ t8 ∷ t9 ∷ t10 ∷ t11 ∷ rest in
     ap (λ x. x ++ rest) (same-header fields (fields_of all) number ssrc own)
-    ∙ ap (λ (s : List ℕ). ((128 + t0 % 64) ∷ t1 ∷ to_be_bytes w16 number ++ t4 ∷ t5 ∷ t6 ∷ t7 ∷ s) ++ rest) (sym source)
-    ∙ ap (λ (n : List ℕ). ((128 + t0 % 64) ∷ t1 ∷ n ++ t4 ∷ t5 ∷ t6 ∷ t7 ∷ t8 ∷ t9 ∷ t10 ∷ t11 ∷ []) ++ rest) (sym number_is)
+    ∙ ap (λ (s : List ℕ). ((128 + t0 % 64) ∷ t1 ∷ to_be_bytes w16 number ++ t4 ∷ t5 ∷ t6 ∷ t7 ∷ s) ++ rest)
+    (sym source)
+    ∙ ap (λ (n : List ℕ). ((128 + t0 % 64) ∷ t1 ∷ n ++ t4 ∷ t5 ∷ t6 ∷ t7 ∷ t8 ∷ t9 ∷ t10 ∷ t11 ∷ []) ++ rest)
+    (sym number_is)
     ∙ ap (λ n. n ∷ t1 ∷ t2 ∷ t3 ∷ t4 ∷ t5 ∷ t6 ∷ t7 ∷ t8 ∷ t9 ∷ t10 ∷ t11 ∷ rest) first
 header-own fields text number ssrc own long version number_is source = absurd (omega arith)
 
@@ -166,7 +174,7 @@ covered-at : (long : Bool) (i : ℕ) (levels : List Level) (k : ℕ) → are_nes
 covered-at long i [] k nested names within = absurd (omega arith)
 covered-at long i (level ∷ levels) k nested names within = covered-named long i level levels k nested names within
 
-pub text-own : (p : Payload) (others : Texts) (offset : ℕ) (text : List ℕ) (ssrc : ℕ)
+text-own : (p : Payload) (others : Texts) (offset : ℕ) (text : List ℕ) (ssrc : ℕ)
     → IsTrue p ((offset, text) ∷ others) → are_nested (masks p.levels) ≡ true → HasSize text
     → IsFrom p offset ssrc text → length text - 12 ≤ MOST_REBUILT → length text - 12 ≤ covered p offset
     → rebuilt p others offset ssrc ≡ Ok text
@@ -190,7 +198,8 @@ text-own p others offset text ssrc true_is nested size origin few within =
     ∙ take_all n (drop 12 text) (omega (arith, rest_long)) in
     let fields : List ℕ = map field (numbers_from 0 8) in
     let own : (k : ℕ) → k < 8 → octet_at k fields ≡ octet_at k (fields_of text) =
-    λ k lt. sym (fields-at field (fields_of text) (λ j less. sym (field-own p others offset text true_is j less)) k lt) in
+    λ k lt. sym (fields-at field (fields_of text)
+    (λ j less. sym (field-own p others offset text true_is j less)) k lt) in
     let text_is : rebuilt_text p others offset ssrc ≡ text =
     ap (λ m. header_of fields number ssrc ++ map octet (numbers_from 0 m)) len
     ∙ ap (λ (x : List ℕ). header_of fields number ssrc ++ x) body
@@ -201,3 +210,18 @@ text-own p others offset text ssrc true_is nested size origin few within =
     le-ltb (covered p offset) (rebuilt_length p others) (omega (arith, len)) in
     let given : List ℕ → Result (List ℕ) RecoverFault = λ x. Ok x in
     rw (not_long, not_far) (ap given text_is)
+
+pub text-rebuilt : (p : Payload) (others : Texts) (offset ssrc : ℕ) (text : List ℕ)
+    → IsRebuildable p others offset ssrc text → rebuilt p others offset ssrc ≡ Ok text
+text-rebuilt p others offset ssrc text is =
+    text-own p others offset text ssrc is.true_is is.nested is.size is.origin is.few is.within
+
+-- of the answer of the code
+pub given-own : {Z : Type 0} (p : Payload) (others : Texts) (missing ssrc : ℕ) (text : List ℕ)
+    (r : Result (Vec ℕ Z) RecoverFault) → view_rebuilt r ≡ rebuilt p others missing ssrc
+    → IsRebuildable p others missing ssrc text → IsOkAnd r (λ out. out.items ≡ text)
+given-own p others missing ssrc text (Ok v) rebuilds is =
+    let given : List ℕ → Result (List ℕ) RecoverFault = λ x. Ok x in
+    let e : given v.items ≡ given text = rebuilds ∙ text-rebuilt p others missing ssrc text is in cc
+given-own p others missing ssrc text (Err e) rebuilds is =
+    let wrong = rebuilds ∙ text-rebuilt p others missing ssrc text is in absurd cc

@@ -7,8 +7,8 @@ use Rattle.vrx_fec.specs.Payload.{Payload, octets_of}
 use Rattle.vrx_fec.specs.Reading.{fault, reading}
 use Rattle.vrx_fec.specs.Rebuilt.{covered, rebuilt}
 
--- texts of the source 10 with timestamp 0 and of type 96: number 2 with 00bb, 3 with 00cccd, and 4 with the marker and
--- 00dd
+-- texts of the source 10 with timestamp 0 and of type 96: number 2 with 00bb, 3 with 00cccd, and 4 with the marker
+-- and 00dd
 abbrev text2 : List ℕ
 text2 = 0x80 ∷ 0x60 ∷ 0 ∷ 2 ∷ 0 ∷ 0 ∷ 0 ∷ 0 ∷ 0 ∷ 0 ∷ 0 ∷ 10 ∷ 0 ∷ 0xbb ∷ []
 
@@ -120,7 +120,11 @@ spelled49 = refl
 offsets49 : offsets true 1 ≡ 47 ∷ []
 offsets49 = refl
 
-rebuilt48 : rebuilt fec49 [] 47 10 ≡ Ok (0x80 ∷ 0xe0 ∷ 0 ∷ 48 ∷ 0 ∷ 0 ∷ 0x0b ∷ 0xb8 ∷ 0 ∷ 0 ∷ 0 ∷ 10 ∷ 0x10 ∷ 1 ∷ 0xbb ∷ [])
+-- number 48 with the marker, timestamp 3,000 and 1001bb
+abbrev text48 : List ℕ
+text48 = 0x80 ∷ 0xe0 ∷ 0 ∷ 48 ∷ 0 ∷ 0 ∷ 0x0b ∷ 0xb8 ∷ 0 ∷ 0 ∷ 0 ∷ 10 ∷ 0x10 ∷ 1 ∷ 0xbb ∷ []
+
+rebuilt48 : rebuilt fec49 [] 47 10 ≡ Ok text48
 rebuilt48 = refl
 
 -- ---- faults
@@ -156,7 +160,8 @@ names_none : reading (head5 ++ 0 ∷ 0 ∷ 0 ∷ 0 ∷ []) 5 ≡ Err (fault None
 names_none = refl
 
 -- 2 and 3 are protected: by 4, and not by 3, by 2, nor by the number that is half of the numbers beyond 2
-ahead_least : reading (head5 ++ 0 ∷ 0 ∷ 0xc0 ∷ 0 ∷ []) 4 ≡ Ok (record fec5 { levels = record { mask = 0xc000; octets = [] } ∷ [] })
+ahead_least : reading (head5 ++ 0 ∷ 0 ∷ 0xc0 ∷ 0 ∷ []) 4
+    ≡ Ok (record fec5 { levels = record { mask = 0xc000; octets = [] } ∷ [] })
 ahead_least = refl
 
 ahead3 : reading (head5 ++ 0 ∷ 0 ∷ 0xc0 ∷ 0 ∷ []) 3 ≡ Err (fault AheadOfSelf 2)
@@ -168,5 +173,6 @@ ahead2 = refl
 ahead_half : reading (head5 ++ 0 ∷ 0 ∷ 0xc0 ∷ 0 ∷ []) 32770 ≡ Err (fault AheadOfSelf 2)
 ahead_half = refl
 
-ahead_below_half : reading (head5 ++ 0 ∷ 0 ∷ 0xc0 ∷ 0 ∷ []) 32769 ≡ Ok (record fec5 { levels = record { mask = 0xc000; octets = [] } ∷ [] })
+ahead_below_half : reading (head5 ++ 0 ∷ 0 ∷ 0xc0 ∷ 0 ∷ []) 32769
+    ≡ Ok (record fec5 { levels = record { mask = 0xc000; octets = [] } ∷ [] })
 ahead_below_half = refl

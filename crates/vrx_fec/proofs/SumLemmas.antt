@@ -31,7 +31,8 @@ abbrev pub added : Bool → ℕ → ℕ → List ℕ → ℕ → ℕ
 added long mask offset octets k = if is_named long mask offset then slice_index octets k else 0
 
 -- the octets of the first level and those of the others, each with what is added
-pub add-place : (long : Bool) (offset : ℕ) (span : Span) (later : List Span) (body octets front rest : List ℕ) (size : ℕ)
+pub add-place : (long : Bool) (offset : ℕ) (span : Span) (later : List Span) (body octets front rest : List ℕ)
+    (size : ℕ)
     → size ≡ min span.size (length body) → length front ≡ size
     → ((k : ℕ) → k < length (take size body) → slice_index front k ≡
     bit_xor (slice_index (take size body) k) (added long span.mask offset octets k))
@@ -47,7 +48,8 @@ add-place long offset span later body octets front rest size size_is front_is fi
           let inside : k < length (take size body) = omega (arith, length-take-le size body short) in
           get_or_append_left front rest 0 k (omega (arith, front_is)) ∙ first k inside
           ∙ ap (λ x. bit_xor x (added long span.mask offset octets k)) (get_or-take size body k 0 lt)
-          ∙ ap (λ m. bit_xor (slice_index body k) (added long m offset octets k)) (sym (mask_at-first span later k small))
+          ∙ ap (λ m. bit_xor (slice_index body k) (added long m offset octets k))
+          (sym (mask_at-first span later k small))
       | inr le ↦
           let whole : size ≡ span.size = omega (arith, size_is) in
           let place : size + (k - size) ≡ k = omega arith in
@@ -77,10 +79,14 @@ pub add-cut : (long : Bool) (offset : ℕ) (spans : List Span) (body octets : Li
     bit_xor (slice_index rest_old k) (added long (mask_at (between 1 (length spans) spans) k) offset octets_later k))
     → (k : ℕ) → k < length body → slice_index (front ++ rest) k ≡
     bit_xor (slice_index body k) (added long (mask_at spans k) offset octets k)
-add-cut long offset spans body octets size front_old rest_old octets_later front rest adds some size_is front_is rest_is
-    later_is adds_is front_long first second k within =
+add-cut long offset spans body octets size front_old rest_old octets_later front rest adds some size_is front_is
+    rest_is later_is adds_is front_long first second k within =
     let ne : length spans ≡ 0 → ⊥ = eqb-false (length spans) 0 some in
-    let many : 0 < length spans = elim (cases_lt 0 (length spans)) [ inl lt ↦ lt | inr le ↦ absurd (ne (omega arith)) ] in
+    let many : 0 < length spans = elim (cases_lt 0 (length spans)) [
+      | inl lt ↦ lt
+      | inr le ↦ absurd
+          (ne (omega arith))
+    ] in
     let span : Span = get_or spans 0 no_span in
     let later : List Span = between 1 (length spans) spans in
     let all : spans ≡ span ∷ later = first_rest spans no_span many in
@@ -128,10 +134,12 @@ one-added p texts offset text fields fields_new body body_new is size fields_are
       body_is k inside
       ∙ ap (λ x. bit_xor x (added p.long mask offset (drop 12 text) k)) (is.body k inside)
       ∙ turned (slice_index (body_of p.levels) k) others (added p.long mask offset (drop 12 text) k)
-      ∙ ap (λ x. bit_xor (slice_index (body_of p.levels) k) (bit_xor (if is_named p.long mask offset then x else 0) others))
+      ∙ ap (λ x. bit_xor (slice_index (body_of p.levels) k)
+      (bit_xor (if is_named p.long mask offset then x else 0) others))
       (get_or-drop 12 text k 0)
       ∙ ap (bit_xor (slice_index (body_of p.levels) k))
-      (sym (one-named (λ t. octet_at (12 + k) t) (is_named p.long mask offset) (offset, text) (named p.long mask texts)));
+      (sym (one-named (λ t. octet_at (12 + k) t) (is_named p.long mask offset) (offset, text)
+      (named p.long mask texts)));
 }
 
 -- ---- what is rebuilt
@@ -154,7 +162,8 @@ covered-within long i (level ∷ levels) =
     let rest = covered-within long i levels in
     let whole = length-append level.octets (body_of levels) in
     elim (is_named long level.mask i)
-    as (λ b. cond b (length level.octets) 0 + covered_by long (spans_of levels) i ≤ length (level.octets ++ body_of levels)) [
+    as (λ b. cond b (length level.octets) 0 + covered_by long (spans_of levels) i ≤ length
+    (level.octets ++ body_of levels)) [
       | true ↦ omega arith
       | false ↦ omega arith
     ]
@@ -198,7 +207,8 @@ pub rebuilt-ok : (p : Payload) (texts : Texts) (missing ssrc : ℕ) (sums : Sums
 rebuilt-ok p texts missing ssrc sums len is len_is few within =
     let same : len ≡ rebuilt_length p texts = omega (arith, is.fields 6 (omega arith), is.fields 7 (omega arith)) in
     let number : ℕ = (p.base + missing) % 2 ^ 16 in
-    let head : header_of sums.fields number ssrc ≡ header_of (map (rebuilt_field p texts) (numbers_from 0 8)) number ssrc =
+    let head : header_of sums.fields number ssrc
+    ≡ header_of (map (rebuilt_field p texts) (numbers_from 0 8)) number ssrc =
     same-header sums.fields (map (rebuilt_field p texts) (numbers_from 0 8)) number ssrc
     (fields-at (rebuilt_field p texts) sums.fields is.fields) in
     let body : take len sums.body ≡ map (rebuilt_octet p texts) (numbers_from 0 len) =
@@ -209,7 +219,8 @@ rebuilt-ok p texts missing ssrc sums len is len_is few within =
     ∙ ap (λ x. header_of (map (rebuilt_field p texts) (numbers_from 0 8)) number ssrc ++ x) body
     ∙ ap (λ n. header_of (map (rebuilt_field p texts) (numbers_from 0 8)) number ssrc
     ++ map (rebuilt_octet p texts) (numbers_from 0 n)) same in
-    let long : nat_lt MOST_REBUILT (rebuilt_length p texts) ≡ false = le-ltb MOST_REBUILT (rebuilt_length p texts) (omega (arith, same)) in
+    let long : nat_lt MOST_REBUILT (rebuilt_length p texts)
+    ≡ false = le-ltb MOST_REBUILT (rebuilt_length p texts) (omega (arith, same)) in
     let far : nat_lt (covered p missing) (rebuilt_length p texts) ≡ false =
     le-ltb (covered p missing) (rebuilt_length p texts) (omega (arith, same)) in
     let given : List ℕ → Result (List ℕ) RecoverFault = λ x. Ok x in

@@ -41,10 +41,11 @@ pub record ArePlanned (long : Bool) (spans : List Span) : Type 0 where
 
 -- a plan's spans, the octets of all levels, and an empty list with room for the payload; a level has at most eight
 -- octets before its own
-pub record IsMaker (long : Bool) (base : ℕ) (spans : List Span) (fields body out : List ℕ) (capacity : ℕ) : Type 0 where
+pub record IsMaker (long : Bool) (base : ℕ) (spans : List Span) (fields body out : List ℕ) (room_in : ℕ)
+    : Type 0 where
   pub planned : ArePlanned long spans
   pub base_fits : base < 2 ^ 16
   pub first_field : octet_at 0 fields < 64
   pub size : length body ≡ total spans
   pub empty : out ≡ []
-  pub room : HEAD + 8 * length spans + total spans ≤ capacity
+  pub room : HEAD + 8 * length spans + total spans ≤ room_in

@@ -12,7 +12,8 @@ use Rattle.vrx_fec.specs.Parity.{octet_at, spans_of}
 abbrev pub plan_masks : List LevelPlan → List ℕ
 plan_masks plan = map (λ level. level.mask) plan
 
--- A PLAN of one to eight levels: each mask fits its field and is within the one before it, and the first names SN base
+-- A PLAN of one to eight levels: each mask fits its field and is within the one before it, and the first one names SN
+-- base
 pub record IsPlan (long : Bool) (plan : List LevelPlan) : Type 0 where
   pub some : 1 ≤ length plan
   pub few : length plan ≤ MOST_LEVELS

@@ -1,5 +1,5 @@
--- The XOR of what a FEC packet protects (RFC 5109 8.1, 8.2), place by place over a list of texts. A text is a protected
--- packet, from its RTP header on; it stands here with its offset from SN base.
+-- The XOR of what a FEC packet protects (RFC 5109 8.1, 8.2), place by place over a list of texts. A text is a
+-- protected packet, from its RTP header on; it stands here with its offset from SN base.
 use Rattle.std.specs.Prelude.{◌≡◌, ℕ, ◌+◌, ◌-◌, ◌%◌, ◌<◌, Bool, nat_lt, if◌then◌else◌, bit_xor, List, [], ◌∷◌, length, map, filter, flat_map, slice_index, IsPermutation}
 use Rattle.std.specs.Int.{w16, to_be_bytes}
 use Rattle.vrx_fec.specs.declared.parity.TheConstants.{HEADER}
@@ -15,9 +15,9 @@ Texts = List (ℕ × List ℕ)
 abbrev pub octet_at : ℕ → List ℕ → ℕ
 octet_at k octets = slice_index octets k
 
--- THE FIELDS of a text that the FEC header protects (RFC 5109 8.1), in its order: the first octet without the version,
--- so P, X and CC; M and PT; the four octets of the timestamp; and how many octets come after the first twelve, in 16
--- bits.
+-- THE FIELDS of a text that the FEC header protects (RFC 5109 8.1), in its order: the first octet without the
+-- version, so P, X and CC; M and PT; the four octets of the timestamp; and how many octets come after the first
+-- twelve, in 16 bits.
 abbrev pub fields_of : List ℕ → List ℕ
 fields_of text = octet_at 0 text % 64 ∷ octet_at 1 text ∷ octet_at 4 text ∷ octet_at 5 text ∷ octet_at 6 text
     ∷ octet_at 7 text ∷ to_be_bytes w16 (length text - HEADER)
@@ -43,8 +43,8 @@ span_of level = record { mask = level.mask; size = length level.octets }
 abbrev pub spans_of : List Level → List Span
 spans_of levels = map span_of levels
 
--- The mask of the level that protects the octet k after the first twelve: level 0 protects the first ones, level 1 those
--- that follow, and so on (RFC 5109 8.2).
+-- The mask of the level that protects the octet k after the first twelve: level 0 protects the first ones, level 1
+-- those that follow, and so on (RFC 5109 8.2).
 abbrev pub mask_at : List Span → ℕ → ℕ
 mask_at [] k = 0
 mask_at (span ∷ spans) k = if nat_lt k span.size then span.mask else mask_at spans (k - span.size)

@@ -1,29 +1,10 @@
--- The payload of a FEC packet: ULPFEC (RFC 5109 7.3 and 7.4).
---
---  0                   1                   2                   3
---  0 1 2 3 4 5 6 7 8 9 0 1 2 3 4 5 6 7 8 9 0 1 2 3 4 5 6 7 8 9 0 1
--- +-+-+-+-+-+-+-+-+-+-+-+-+-+-+-+-+-+-+-+-+-+-+-+-+-+-+-+-+-+-+-+-+
--- |E|L|P|X|  CC   |M|     PT      |            SN base            |
--- +-+-+-+-+-+-+-+-+-+-+-+-+-+-+-+-+-+-+-+-+-+-+-+-+-+-+-+-+-+-+-+-+
--- |                          TS recovery                          |
--- +-+-+-+-+-+-+-+-+-+-+-+-+-+-+-+-+-+-+-+-+-+-+-+-+-+-+-+-+-+-+-+-+
--- |        length recovery        |
--- +-+-+-+-+-+-+-+-+-+-+-+-+-+-+-+-+
---
--- and then level after level to the end, each
---
--- +-+-+-+-+-+-+-+-+-+-+-+-+-+-+-+-+-+-+-+-+-+-+-+-+-+-+-+-+-+-+-+-+
--- |       protection length       |             mask              |
--- +-+-+-+-+-+-+-+-+-+-+-+-+-+-+-+-+-+-+-+-+-+-+-+-+-+-+-+-+-+-+-+-+
--- |                  mask, continued, if L = 1                    |
--- +-+-+-+-+-+-+-+-+-+-+-+-+-+-+-+-+-+-+-+-+-+-+-+-+-+-+-+-+-+-+-+-+
--- :            octets: as many as the protection length           :
--- +-+-+-+-+-+-+-+-+-+-+-+-+-+-+-+-+-+-+-+-+-+-+-+-+-+-+-+-+-+-+-+-+
+-- The payload of a FEC packet: ULPFEC (RFC 5109 7.3 and 7.4). The picture of the
+-- bits stands in src/lib.rt.
 use Rattle.std.specs.Prelude.{◌≡◌, ℕ, ◌+◌, ◌-◌, ◌/◌, ◌%◌, ◌^◌, ◌<◌, ◌≤◌, Bool, true, false, not, ◌||◌, ◌==◌, nat_lt, nat_le, if◌then◌else◌, List, [], ◌∷◌, ◌++◌, length, map, drop, slice_index, flat_map, All}
 use Rattle.std.specs.Int.{w16, w64, to_be_bytes, from_be_bytes}
 use Rattle.std.specs.List.{list_all}
 use Rattle.vrx_num.specs.declared.limits.TheConstants.{HALF_SPACE}
-use Rattle.vrx_fec.specs.declared.fec.TheConstants.{MOST_LEVELS}
+use Rattle.vrx_fec.specs.declared.fec.TheConstants.{HEAD, MOST_LEVELS}
 use Rattle.vrx_fec.specs.Mask.{width, offsets, are_nested}
 
 -- a level: whom it protects, and the octets that protect them (RFC 5109 7.4)
@@ -90,7 +71,7 @@ pub record FitsLevel (long : Bool) (level : Level) : Type 0 where
 pub record IsPayload (octets : List ℕ) (own : ℕ) (p : Payload) : Type 0 where
   pub spelled : octets ≡ octets_of p
   -- the FEC header has ten octets, and says what it is read for
-  pub head : length p.head ≡ 10
+  pub head : length p.head ≡ HEAD
   pub long : p.long ≡ has_long_masks p.head
   pub base : p.base ≡ base_in p.head
   -- at most eight levels, each of which fits, and whose masks are each within the one before

@@ -53,7 +53,8 @@ level_size long level = (if long then 8 else 4) + length level.octets
 abbrev pub next_level_at : Bool → Option ℕ → ℕ → List ℕ → Result (Level × List ℕ) FecFault
 next_level_at long before offset octets = level_at long offset octets >>= nested_at before offset
 
--- The levels from this offset on, of which there may be so many more; before them stands a level of this mask, or none.
+-- The levels from this offset on, of which there may be so many more; before them stands a level of this mask, or
+-- none.
 abbrev pub levels_at : ℕ → Bool → Option ℕ → ℕ → List ℕ → Result (List Level) FecFault
 levels_at more long before offset [] = Ok []
 levels_at zero long before offset (first ∷ octets) = Err (fault ManyLevels offset)

@@ -1,13 +1,14 @@
 -- Rebuilding a lost packet from a FEC payload and the other protected packets (RFC 5109 9.1, 9.2).
-use Rattle.std.specs.Prelude.{◌≡◌, ℕ, ◌+◌, ◌%◌, ◌^◌, ◌<◌, Bool, nat_lt, if◌then◌else◌, bit_xor, List, [], ◌∷◌, ◌++◌, length, map, Result, Ok, Err}
+use Rattle.std.specs.Prelude.{◌≡◌, ℕ, ◌+◌, ◌-◌, ◌/◌, ◌%◌, ◌^◌, ◌<◌, ◌≤◌, Bool, true, nat_lt, if◌then◌else◌, bit_xor, List, [], ◌∷◌, ◌++◌, length, map, take, drop, Result, Ok, Err}
 use Rattle.std.specs.Int.{w16, w32, to_be_bytes, from_be_bytes}
+use Rattle.vrx_fec.specs.declared.parity.TheConstants.{HEADER}
 use Rattle.vrx_fec.specs.declared.span.Span.{Span}
 use Rattle.vrx_fec.specs.declared.register.RecoverFault.{RecoverFault}
 use Rattle.vrx_fec.specs.declared.register.RecoverFault.TheVariants.{BadLength, NotCovered}
 use Rattle.vrx_fec.specs.declared.register.TheConstants.{MOST_REBUILT}
-use Rattle.vrx_fec.specs.Mask.{is_named, numbers_from}
-use Rattle.vrx_fec.specs.Payload.{Payload}
-use Rattle.vrx_fec.specs.Parity.{Texts, body_of, octet_at, recovery, spans_of, xor_of_fields, xor_of_octets}
+use Rattle.vrx_fec.specs.Mask.{are_nested, is_named, numbers_from}
+use Rattle.vrx_fec.specs.Payload.{Payload, masks}
+use Rattle.vrx_fec.specs.Parity.{IsTrue, Texts, body_of, octet_at, recovery, spans_of, xor_of_fields, xor_of_octets}
 
 -- a field of the lost packet: the XOR of the recovery field and of the others' fields
 abbrev pub rebuilt_field : Payload → Texts → ℕ → ℕ
@@ -51,6 +52,28 @@ rebuilt p others missing ssrc =
     if nat_lt MOST_REBUILT (rebuilt_length p others) then Err BadLength
     else if nat_lt (covered p missing) (rebuilt_length p others) then Err NotCovered
     else Ok (rebuilt_text p others missing ssrc)
+
+-- a text of the source: RTP of version 2 (RFC 3550 5.1), under the number at this offset from SN base, and of this
+-- SSRC
+pub record IsFrom (p : Payload) (offset ssrc : ℕ) (text : List ℕ) : Type 0 where
+  pub version : octet_at 0 text / 64 ≡ 2
+  pub number : take 2 (drop 2 text) ≡ to_be_bytes w16 ((p.base + offset) % 2 ^ 16)
+  pub source : take 4 (drop 8 text) ≡ to_be_bytes w32 ssrc
+
+-- the text can be protected: it has an RTP header, and the octets after its first twelve are counted in 16 bits
+pub record HasSize (text : List ℕ) : Type 0 where
+  pub at_least : HEADER ≤ length text
+  pub at_most : length text - HEADER < 2 ^ 16
+
+-- The payload is true for this text at this offset and for the others. Each level's mask is within the one before, as
+-- in each payload that is read. The text's octets after the first twelve are covered, and not too many.
+pub record IsRebuildable (p : Payload) (others : Texts) (missing ssrc : ℕ) (text : List ℕ) : Type 0 where
+  pub true_is : IsTrue p ((missing, text) ∷ others)
+  pub nested : are_nested (masks p.levels) ≡ true
+  pub size : HasSize text
+  pub origin : IsFrom p missing ssrc text
+  pub few : length text - HEADER ≤ MOST_REBUILT
+  pub within : length text - HEADER ≤ covered p missing
 
 -- what a register has added up: fields, and octets after the first twelve
 pub record Sums : Type 0 where

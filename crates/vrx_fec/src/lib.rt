@@ -19,9 +19,9 @@
 //! ```
 //!
 //! [`read_fec`] takes a payload apart. A [`Register`] of it adds up the packets that came, and gives the one that
-//! didn't. A [`FecMaker`] makes the payload of a plan. `specs/Payload.antt` has the form of a payload, `specs/Parity.antt`
-//! what is true, and `specs/Rebuilt.antt` what is rebuilt. [`one_payload`], [`one_rebuilt`]
-//! and [`any_order`] have the laws.
+//! didn't. A [`FecMaker`] makes the payload of a plan. `specs/Payload.antt` has the form of a payload,
+//! `specs/Parity.antt` what is true, and `specs/Rebuilt.antt` what is rebuilt. [`one_payload`], [`one_rebuilt`] and
+//! [`any_order`] have the laws.
 #![tactic(auto)]
 
 mod fault;

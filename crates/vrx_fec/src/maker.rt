@@ -51,7 +51,8 @@ impl Model for FecMaker {
 
     ghost view = { λ a. made a.long a.base a.spans.items a.fields a.body.items };
 
-    ghost invariant = { λ a. IsMaker a.long a.base a.spans.items a.fields a.body.items a.out.items (vec_capacity a.out) };
+    ghost invariant = { λ a.
+        IsMaker a.long a.base a.spans.items a.fields a.body.items a.out.items (vec_capacity a.out) };
 }
 
 impl FecMaker {

@@ -1,9 +1,9 @@
 //! Rebuilding a lost packet (RFC 5109 9.1, 9.2).
 
-ghost use Rattle.std.specs.Prelude.{◌≡◌, ◌↔◌, ℕ, ◌<◌, bit_xor, if◌then◌else◌, ◌≤◌, [], ◌∷◌, ◌++◌, length, map, replicate, take, drop, slice_index, vec_len, Ok, Err, IfOk, IsErrOf, nat_le};
+ghost use Rattle.std.specs.Prelude.{◌≡◌, ◌↔◌, ℕ, ◌<◌, bit_xor, if◌then◌else◌, ◌≤◌, List, [], ◌∷◌, ◌++◌, length, map, replicate, take, drop, slice_index, vec_len, Ok, Err, IfOk, IsOkAnd, IsErrOf, nat_le};
 ghost use Rattle.vrx_fec.specs.Mask.{is_named};
 ghost use Rattle.vrx_fec.specs.Parity.{Texts, body_of, mask_at, recovery, spans_of as spans_in};
-ghost use Rattle.vrx_fec.specs.Rebuilt.{IsOf, covered, covered_by, header_of, rebuilt, rebuilt_length};
+ghost use Rattle.vrx_fec.specs.Rebuilt.{IsOf, IsRebuildable, covered, covered_by, header_of, rebuilt, rebuilt_length};
 ghost use Rattle.vrx_fec.specs.View.{view, view_level, view_rebuilt};
 
 use crate::fec::{Fec, Level};
@@ -64,7 +64,7 @@ impl Register {
         })
     }
 
-    /// Adds the text of the packet at this offset from SN base.
+    /// Adds the text of the packet at this offset from SN base. The payload is the one with which it was started.
     pub fn add(&mut self, fec: &Fec<'_>, offset: u8, text: &[u8])
         requires at_least { HEADER ≤ length text.now }
         requires at_most { length text.now ≤ MOST_TEXT }
@@ -80,6 +80,10 @@ impl Register {
         ensures rebuilds { (texts : Texts) → IsOf self (view fec.now) texts →
             view_rebuilt result ≡ rebuilt (view fec.now) texts missing ssrc }
 
+        // Of a true payload and all other texts it is the text that is missing, if that can be rebuilt.
+        ensures gives { (others : Texts) (text : List ℕ) → IsOf self (view fec.now) others →
+            IsRebuildable (view fec.now) others missing ssrc text → IsOkAnd result (λ out. out.items ≡ text) }
+
         // When it isn't rebuilt.
         ensures bad_length { (texts : Texts) → IsOf self (view fec.now) texts →
             (IsErrOf result RecoverFault.BadLength ↔ (MOST_REBUILT < rebuilt_length (view fec.now) texts)) }
@@ -91,7 +95,7 @@ impl Register {
         self.rebuild(fec, missing, ssrc)
     }
 
-    /// The same, as a result that says all.
+    /// What is rebuilt, or why nothing is.
     fn rebuild(self, fec: &Fec<'_>, missing: u8, ssrc: u32) -> Result<Vec<u8>, RecoverFault>
         ensures rebuilds { (texts : Texts) → IsOf self (view fec.now) texts →
             view_rebuilt result ≡ rebuilt (view fec.now) texts missing ssrc }
@@ -116,8 +120,8 @@ fn add_to_text(to: &mut Vec<u8>, fec: &Fec<'_>, offset: u8, text: &[u8])
     ensures size { length to.new.items ≡ length to.old.items }
     ensures body { (k : ℕ) → k < length (drop 12 to.old.items) → slice_index (drop 12 to.new.items) k ≡
         bit_xor (slice_index (drop 12 to.old.items) k)
-        (if is_named fec.now.long (mask_at (spans_in (view fec.now).levels) k) offset then slice_index (drop 12 text.now) k
-        else 0) }
+        (if is_named fec.now.long (mask_at (spans_in (view fec.now).levels) k) offset
+        then slice_index (drop 12 text.now) k else 0) }
 {
     let spans = spans_of(&fec.levels);
     let (_room, body) = to.as_mut_slice().split_at_mut(HEADER);

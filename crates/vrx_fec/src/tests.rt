@@ -1,5 +1,5 @@
-// What no clause says: that memory is there, and that the octets are those of the RFC's figures. They were worked out by
-// hand.
+// What no clause says: that memory is there, and that the octets are those of the RFC's figures. They were worked out
+// by hand.
 use super::*;
 use std::alloc::Global;
 use std::test::Fail;

@@ -40,4 +40,5 @@ returns-clause-parity c =
     let none : ℕ = 0 in
     parity-made c.args.long c.args.base c.spans_of_plan-spans.result.items (replicate eight none)
     c.in_ok-vec.field-0.items (omega arith) (size c) []
-    (none-added c.args.long c.spans_of_plan-spans.result.items c.in_ok-vec.field-0.items c.total_of-total.result (zeros c))
+    (none-added c.args.long c.spans_of_plan-spans.result.items c.in_ok-vec.field-0.items c.total_of-total.result
+    (zeros c))

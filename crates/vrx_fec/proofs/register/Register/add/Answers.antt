@@ -21,7 +21,12 @@ returns c = record {
   adds = λ texts is. one-added (view c.args.fec.now) texts c.args.offset c.args.text.now c.self.inside.fields
       c.xor_into.new.target (drop 12 c.self.inside.text.items) (drop 12 c.add_to_text.new.to.items)
       (subst (λ sums. IsOf sums (view c.args.fec.now) texts) (sym c.self.view_is) is)
-      (omega (arith, length-drop 12 c.self.inside.text.items, length-drop 12 c.add_to_text.new.to.items, c.add_to_text.ensures.size))
+      (omega (
+        arith,
+        length-drop 12 c.self.inside.text.items,
+        length-drop 12 c.add_to_text.new.to.items,
+        c.add_to_text.ensures.size,
+      ))
       (λ k lt. c.xor_into.ensures k (omega (arith, eight c))
       ∙ ap (λ x. bit_xor (slice_index c.self.inside.fields k) (slice_index x k)) c.fields_of.ensures)
       c.add_to_text.ensures.body;
