@@ -1,0 +1,9 @@
+pub mod Laws
+pub mod Made
+pub mod Making
+pub mod Mask
+pub mod Parity
+pub mod Payload
+pub mod Reading
+pub mod Rebuilt
+pub mod View
