@@ -1,0 +1,105 @@
+-- What each call makes of what a finder remembers, and what it judges by that. No public clause cites this module.
+use Rattle.std.specs.Prelude.{ℕ, ◌+◌, ◌-◌, ◌%◌, Bool, true, false, ◌||◌, ◌&&◌, not, ◌==◌, max, if◌then◌else◌, List, [], slice_set, Option, Some, None, is_some}
+use Rattle.std.specs.List.{filter}
+use Rattle.std.specs.Option.{option_map}
+use Rattle.vrx_codec.specs.declared.run.Place.{Place}
+use Rattle.vrx_codec.specs.declared.run.Run.{Run}
+use Rattle.vrx_refs.specs.declared.limits.TheConstants.{INDEXES, MEMORY, REACH}
+use Rattle.vrx_refs.specs.declared.sight.Sight.{Sight}
+use Rattle.vrx_refs.specs.Finder.{Finder, base_at, is_too_old, sight_at, slot_at}
+use Rattle.vrx_refs.specs.References.{Judgement, Key, Needs, Unknown, counts, is_passed_before, walk}
+
+-- a picture seen for the first time
+abbrev pub new_sight : (picture tid : ℕ) → Sight
+new_sight picture tid = record { picture = picture; tid = tid; pulled = false; key = false }
+
+-- once a packet carried a picture
+abbrev pub with_seen : (picture tid : ℕ) → Finder → Finder
+with_seen picture tid finder =
+    if is_too_old finder.newest picture || is_some (slot_at finder.sights picture) then finder
+    else record {
+      newest = max finder.newest picture;
+      sights = slice_set finder.sights (picture % MEMORY) (Some (new_sight picture tid));
+      bases = finder.bases;
+      has_pulled = finder.has_pulled;
+    }
+
+-- once a picture was pulled
+abbrev pub marked : Bool → Sight → Sight
+marked key sight = record { picture = sight.picture; tid = sight.tid; pulled = true; key = sight.key || key }
+
+abbrev pub with_mark : ℕ → Bool → List (Option Sight) → List (Option Sight)
+with_mark q key sights = marked_in (slot_at sights q) where
+  marked_in : Option Sight → List (Option Sight)
+  marked_in None = sights
+  marked_in (Some sight) = slice_set sights (q % MEMORY) (Some (marked key sight))
+
+abbrev pub with_base : Place → List (Option ℕ) → List (Option ℕ)
+with_base place bases = if place.tid == 0 then slice_set bases place.tl0 (Some place.picture) else bases
+
+abbrev pub with_place : Bool → Option Place → Finder → Finder
+with_place key None finder = finder
+with_place key (Some place) finder = record {
+  newest = finder.newest;
+  sights = with_mark place.picture key finder.sights;
+  bases = with_base place finder.bases;
+  has_pulled = finder.has_pulled;
+}
+
+-- once a run was pulled
+abbrev pub with_pulled : Run → Finder → Finder
+with_pulled run finder = record {
+  newest = finder.newest;
+  sights = (with_place run.key run.layers finder).sights;
+  bases = (with_place run.key run.layers finder).bases;
+  has_pulled = true;
+}
+
+-- the TID that is remembered of a picture, whether it was pulled, and whether as a keyframe
+abbrev pub tid_at : Finder → ℕ → Option ℕ
+tid_at finder q = option_map (λ s. s.tid) (sight_at finder q)
+
+abbrev pub is_pulled_at : Finder → ℕ → Bool
+is_pulled_at finder q = is_pulled (sight_at finder q) where
+  is_pulled : Option Sight → Bool
+  is_pulled None = false
+  is_pulled (Some sight) = sight.pulled
+
+abbrev pub is_key_at : Finder → ℕ → Bool
+is_key_at finder q = is_key (sight_at finder q) where
+  is_key : Option Sight → Bool
+  is_key None = false
+  is_key (Some sight) = sight.key
+
+-- the walk back from a frame
+abbrev pub walk_at : Finder → Place → Option (List ℕ)
+walk_at finder place = walk (tid_at finder) (is_key_at finder) place.tid REACH place.picture []
+
+-- the pictures that aren't known to be pulled
+abbrev pub not_pulled_at : Finder → List ℕ → List ℕ
+not_pulled_at finder pictures = filter (λ q. not (is_pulled_at finder q)) pictures
+
+abbrev pub judge_walk : Finder → Option (List ℕ) → Judgement
+judge_walk finder None = Unknown
+judge_walk finder (Some pictures) = Needs (not_pulled_at finder pictures)
+
+-- a base was pulled, and so nothing is waited for
+abbrev pub judge_base : ℕ → Option ℕ → Judgement
+judge_base p None = Unknown
+judge_base p (Some b) = if counts p b then Needs [] else Unknown
+
+abbrev pub judge_place : Finder → Place → Judgement
+judge_place finder place =
+    if place.tid == 0 then judge_base place.picture (base_at finder ((place.tl0 + (INDEXES - 1)) % INDEXES))
+    else if place.sync then judge_base place.picture (base_at finder place.tl0)
+    else judge_walk finder (walk_at finder place)
+
+abbrev pub judge_next : Bool → Option ℕ → ℕ → Judgement
+judge_next has_pulled passed first = if has_pulled && is_passed_before passed first then Needs [] else Unknown
+
+abbrev pub judge_layers : Finder → Option ℕ → ℕ → Option Place → Judgement
+judge_layers finder passed first None = judge_next finder.has_pulled passed first
+judge_layers finder passed first (Some place) = judge_place finder place
+
+abbrev pub judge_by : Finder → Option ℕ → Run → Judgement
+judge_by finder passed run = if run.key then Key else judge_layers finder passed run.first run.layers

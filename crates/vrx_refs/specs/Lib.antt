@@ -1,0 +1,5 @@
+pub mod Finder
+pub mod Kept
+pub mod Knows
+pub mod References
+pub mod View
