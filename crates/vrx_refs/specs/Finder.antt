@@ -1,7 +1,8 @@
 -- What a finder remembers. Only `Knows` says what that has to do with what was told and pulled.
-use Rattle.std.specs.Prelude.{◌≡◌, ℕ, ◌+◌, ◌%◌, Bool, ◌==◌, nat_le, if◌then◌else◌, List, length, slice_index_or, Option, Some, None}
+use Rattle.std.specs.Prelude.{◌≡◌, ℕ, ◌%◌, Bool, ◌==◌, if◌then◌else◌, List, length, slice_index_or, Option, Some, None}
 use Rattle.vrx_refs.specs.declared.limits.TheConstants.{INDEXES, MEMORY}
 use Rattle.vrx_refs.specs.declared.sight.Sight.{Sight}
+use Rattle.vrx_refs.specs.References.{is_recent}
 
 -- the newest picture; what was seen last in each of 4,096 slots, of which a picture has the one of its number modulo
 -- 4,096; the base of each index; and whether a run was pulled
@@ -25,13 +26,9 @@ said_of q (Some sight) = if sight.picture == q then Some sight else None
 abbrev pub slot_at : List (Option Sight) → ℕ → Option Sight
 slot_at sights q = said_of q (slice_index_or sights (q % MEMORY) None)
 
--- a picture is so old that nothing is remembered of it
-abbrev pub is_too_old : ℕ → ℕ → Bool
-is_too_old newest q = nat_le (q + MEMORY) newest
-
 -- what is remembered of a picture
 abbrev pub sight_at : Finder → ℕ → Option Sight
-sight_at finder q = if is_too_old finder.newest q then None else slot_at finder.sights q
+sight_at finder q = if is_recent finder.newest q then slot_at finder.sights q else None
 
 -- the base of an index
 abbrev pub base_at : Finder → ℕ → Option ℕ

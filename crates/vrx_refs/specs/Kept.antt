@@ -1,13 +1,13 @@
 -- What each call makes of what a finder remembers, and what it judges by that. No public clause cites this module.
-use Rattle.std.specs.Prelude.{ℕ, ◌+◌, ◌-◌, ◌%◌, Bool, true, false, ◌||◌, ◌&&◌, not, ◌==◌, max, if◌then◌else◌, List, [], slice_set, Option, Some, None, is_some}
+use Rattle.std.specs.Prelude.{ℕ, ◌+◌, ◌-◌, ◌%◌, Bool, true, false, ◌||◌, ◌&&◌, not, ◌==◌, nat_lt, max, if◌then◌else◌, List, [], slice_set, Option, Some, None, is_none}
 use Rattle.std.specs.List.{filter}
-use Rattle.std.specs.Option.{option_map}
+use Rattle.std.specs.Option.{option_map, option_map_or}
 use Rattle.vrx_codec.specs.declared.run.Place.{Place}
 use Rattle.vrx_codec.specs.declared.run.Run.{Run}
 use Rattle.vrx_refs.specs.declared.limits.TheConstants.{INDEXES, MEMORY, REACH}
 use Rattle.vrx_refs.specs.declared.sight.Sight.{Sight}
-use Rattle.vrx_refs.specs.Finder.{Finder, base_at, is_too_old, sight_at, slot_at}
-use Rattle.vrx_refs.specs.References.{Judgement, Key, Needs, Unknown, counts, is_passed_before, walk}
+use Rattle.vrx_refs.specs.Finder.{Finder, base_at, sight_at, slot_at}
+use Rattle.vrx_refs.specs.References.{Judgement, Key, Needs, Unknown, counts, is_passed_before, is_recent, walk}
 
 -- a picture seen for the first time
 abbrev pub new_sight : (picture tid : ℕ) → Sight
@@ -16,23 +16,24 @@ new_sight picture tid = record { picture = picture; tid = tid; pulled = false; k
 -- once a packet carried a picture
 abbrev pub with_seen : (picture tid : ℕ) → Finder → Finder
 with_seen picture tid finder =
-    if is_too_old finder.newest picture || is_some (slot_at finder.sights picture) then finder
-    else record {
+    if is_recent finder.newest picture && is_none (slot_at finder.sights picture) then record {
       newest = max finder.newest picture;
       sights = slice_set finder.sights (picture % MEMORY) (Some (new_sight picture tid));
       bases = finder.bases;
       has_pulled = finder.has_pulled;
     }
+    else finder
 
 -- once a picture was pulled
 abbrev pub marked : Bool → Sight → Sight
 marked key sight = record { picture = sight.picture; tid = sight.tid; pulled = true; key = sight.key || key }
 
+abbrev pub with_marked : ℕ → Bool → Option Sight → List (Option Sight) → List (Option Sight)
+with_marked q key None sights = sights
+with_marked q key (Some sight) sights = slice_set sights (q % MEMORY) (Some (marked key sight))
+
 abbrev pub with_mark : ℕ → Bool → List (Option Sight) → List (Option Sight)
-with_mark q key sights = marked_in (slot_at sights q) where
-  marked_in : Option Sight → List (Option Sight)
-  marked_in None = sights
-  marked_in (Some sight) = slice_set sights (q % MEMORY) (Some (marked key sight))
+with_mark q key sights = with_marked q key (slot_at sights q) sights
 
 abbrev pub with_base : Place → List (Option ℕ) → List (Option ℕ)
 with_base place bases = if place.tid == 0 then slice_set bases place.tl0 (Some place.picture) else bases
@@ -60,16 +61,10 @@ abbrev pub tid_at : Finder → ℕ → Option ℕ
 tid_at finder q = option_map (λ s. s.tid) (sight_at finder q)
 
 abbrev pub is_pulled_at : Finder → ℕ → Bool
-is_pulled_at finder q = is_pulled (sight_at finder q) where
-  is_pulled : Option Sight → Bool
-  is_pulled None = false
-  is_pulled (Some sight) = sight.pulled
+is_pulled_at finder q = option_map_or (λ s. s.pulled) (sight_at finder q) false
 
 abbrev pub is_key_at : Finder → ℕ → Bool
-is_key_at finder q = is_key (sight_at finder q) where
-  is_key : Option Sight → Bool
-  is_key None = false
-  is_key (Some sight) = sight.key
+is_key_at finder q = option_map_or (λ s. s.key) (sight_at finder q) false
 
 -- the walk back from a frame
 abbrev pub walk_at : Finder → Place → Option (List ℕ)
@@ -103,3 +98,8 @@ judge_layers finder passed first (Some place) = judge_place finder place
 
 abbrev pub judge_by : Finder → Option ℕ → Run → Judgement
 judge_by finder passed run = if run.key then Key else judge_layers finder passed run.first run.layers
+
+-- a run's index, if it has layers, has 8 bits
+abbrev pub has_index : Option Place → Bool
+has_index None = true
+has_index (Some place) = nat_lt place.tl0 INDEXES

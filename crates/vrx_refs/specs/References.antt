@@ -14,23 +14,29 @@ newest_of [] = 0
 newest_of (s ∷ told) = max s.picture (newest_of told)
 
 -- the TID of the first packet that carried a picture
+abbrev pub first_of : ℕ → Sighting → Option ℕ → Option ℕ
+first_of q s (Some tid) = Some tid
+first_of q s None = if s.picture == q then Some s.tid else None
+
 abbrev pub first_tid : ℕ → List Sighting → Option ℕ
 first_tid q [] = None
-first_tid q (s ∷ told) = first_tid_by q s (first_tid q told) where
-  first_tid_by : ℕ → Sighting → Option ℕ → Option ℕ
-  first_tid_by q s (Some tid) = Some tid
-  first_tid_by q s None = if s.picture == q then Some s.tid else None
+first_tid q (s ∷ told) = first_of q s (first_tid q told)
 
--- the TID of a picture that is seen: a packet carried it, and it is above the newest picture less 4,096
+-- a picture is above the newest one less 4,096
+abbrev pub is_recent : ℕ → ℕ → Bool
+is_recent newest q = nat_lt newest (q + MEMORY)
+
+-- the TID of a picture that is seen: a packet carried it, and it is recent
 abbrev pub seen : List Sighting → ℕ → Option ℕ
-seen told q = if nat_lt (newest_of told) (q + MEMORY) then first_tid q told else None
+seen told q = if is_recent (newest_of told) q then first_tid q told else None
 
 -- a run has layers, and this is its picture
+abbrev pub is_placed_at : ℕ → Option Place → Bool
+is_placed_at q None = false
+is_placed_at q (Some place) = place.picture == q
+
 abbrev pub is_of_picture : ℕ → Run → Bool
-is_of_picture q run = is_at q run.layers where
-  is_at : ℕ → Option Place → Bool
-  is_at q None = false
-  is_at q (Some place) = place.picture == q
+is_of_picture q run = is_placed_at q run.layers
 
 -- a picture was pulled, and it was pulled as a keyframe
 abbrev pub was_pulled : List Run → ℕ → Bool
@@ -40,13 +46,13 @@ abbrev pub was_pulled_key : List Run → ℕ → Bool
 was_pulled_key pulled q = list_any (λ run. run.key && is_of_picture q run) pulled
 
 -- the base of an index: the picture of the last run pulled of TID 0 and this TL0PICIDX
+abbrev pub base_by : ℕ → Option Place → Option ℕ → Option ℕ
+base_by index None before = before
+base_by index (Some place) before = if (place.tid == 0) && (place.tl0 == index) then Some place.picture else before
+
 abbrev pub base : List Run → ℕ → Option ℕ
 base [] index = None
-base (run ∷ pulled) index = base_by index run.layers (base pulled index) where
-  base_by : ℕ → Option Place → Option ℕ → Option ℕ
-  base_by index None before = before
-  base_by index (Some place) before =
-      if (place.tid == 0) && (place.tl0 == index) then Some place.picture else before
+base (run ∷ pulled) index = base_by index run.layers (base pulled index)
 
 -- a base counts for picture p if it lies 1 to 255 below it
 abbrev pub counts : ℕ → ℕ → Bool

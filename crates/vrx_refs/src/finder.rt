@@ -1,15 +1,16 @@
 //! The reference finder.
 
-ghost use Rattle.std.specs.Prelude.{◌≡◌, ◌+◌, ◌-◌, ◌%◌, ◌<◌, ◌≤◌, true, false, List, [], ◌∷◌, length, max, IfOk, Some, None};
+ghost use Rattle.std.specs.Prelude.{◌≡◌, ◌+◌, ◌-◌, ◌%◌, ◌<◌, ◌≤◌, true, false, List, [], ◌∷◌, ◌++◌, length, replicate, max, IfOk, Some, None};
+ghost use Rattle.std.specs.Bool.{OnFalse};
 ghost use Rattle.std.specs.Option.{option_map};
 ghost use Rattle.arrayvec.specs.ArrayVec.{array_vec_len};
 ghost use Rattle.vrx_codec.specs.declared.run.Run.{Run};
-ghost use Rattle.vrx_refs.specs.declared.limits.TheConstants.{LAYERS, MEMORY, REACH};
+ghost use Rattle.vrx_refs.specs.declared.limits.TheConstants.{INDEXES, LAYERS, MEMORY, REACH};
 ghost use Rattle.vrx_refs.specs.declared.sighting.Sighting.{Sighting};
-ghost use Rattle.vrx_refs.specs.Finder.{base_at, is_too_old, sight_at, slot_at};
-ghost use Rattle.vrx_refs.specs.Kept.{is_pulled_at, judge_base, judge_by, judge_next, judge_place, not_pulled_at, walk_at, with_base, with_mark, with_pulled, with_seen};
+ghost use Rattle.vrx_refs.specs.Finder.{IsWhole, base_at, sight_at, slot_at};
+ghost use Rattle.vrx_refs.specs.Kept.{has_index, is_pulled_at, judge_base, judge_by, judge_next, judge_place, not_pulled_at, walk_at, with_base, with_mark, with_pulled, with_seen};
 ghost use Rattle.vrx_refs.specs.Knows.{Knows};
-ghost use Rattle.vrx_refs.specs.References.{are_met, counts, has_layer, is_passed_before, judge, met_with, pictures, was_carried};
+ghost use Rattle.vrx_refs.specs.References.{are_met, counts, has_layer, is_passed_before, is_recent, judge, met_with, pictures, was_carried, was_met};
 ghost use Rattle.vrx_refs.specs.View.{view};
 
 use crate::judged::Judged;
@@ -49,8 +50,8 @@ impl Finder {
     pub fn new(alloc: Global) -> Result<Finder, NoMemory>
         ensures knows { IfOk result (λ finder. Knows finder [] []) }
     {
-        let sights = vec![in alloc; None; MEMORY as usize]?;
-        let bases = vec![in alloc; None; INDEXES as usize]?;
+        let sights = nothing(alloc, MEMORY)?;
+        let bases = nothing(alloc, INDEXES)?;
         Ok(Finder {
             newest: 0,
             sights,
@@ -88,7 +89,8 @@ impl Finder {
     /// Judges a run by what is remembered.
     fn judge_run(&self, run: &Run, passed: Option<u64>) -> Judged
         requires layer { has_layer run.now.layers ≡ true }
-        ensures { view result ≡ judge_by self.now passed run.now }
+        ensures judged { view result ≡ judge_by self.now passed run.now }
+        ensures index { OnFalse run.now.key (has_index run.now.layers ≡ true) }
     {
         if run.key {
             return Judged::Key;
@@ -113,7 +115,8 @@ impl Finder {
     /// Judges a run by its place.
     fn judge_place(&self, place: Place) -> Judged
         requires layer { place.tid < LAYERS }
-        ensures { view result ≡ judge_place self.now place }
+        ensures judged { view result ≡ judge_place self.now place }
+        ensures index { place.tl0 < INDEXES }
     {
         if place.tid == 0 {
             self.judge_base(place.picture, place.tl0.wrapping_sub(1))
@@ -165,12 +168,22 @@ impl Finder {
         ensures { result.items ≡ not_pulled_at self.now (pictures met.now.items) }
     {
         let mut pictures = ArrayVec::new();
-        for sighting in met.as_slice() {
-            if !self.was_pulled(sighting.picture) {
-                pictures.push(sighting.picture);
-            }
+        let met = met.as_slice();
+        for i in 0..met.len() {
+            self.note(&mut pictures, met[i].picture);
         }
         pictures
+    }
+
+    /// Notes a picture, unless it was pulled.
+    fn note(&self, pictures: &mut ArrayVec<u64, 4>, picture: u64)
+        requires room { array_vec_len pictures.old < 4 }
+        ensures noted { pictures.new.items ≡ pictures.old.items ++ not_pulled_at self.now (picture ∷ []) }
+        ensures more { array_vec_len pictures.new ≤ array_vec_len pictures.old + 1 }
+    {
+        if !self.was_pulled(picture) {
+            pictures.push(picture);
+        }
     }
 
     /// Whether a picture that is seen was pulled.
@@ -187,10 +200,11 @@ impl Finder {
     fn sight(&self, picture: u64) -> Option<Sight>
         ensures { result ≡ sight_at self.now picture }
     {
-        if is_too_old(self.newest, picture) {
-            return None;
+        if is_recent(self.newest, picture) {
+            self.slot(picture)
+        } else {
+            None
         }
-        self.slot(picture)
     }
 
     /// What its slot says of a picture.
@@ -205,23 +219,24 @@ impl Finder {
 
     /// Remembers the TID of a picture, unless it is known or too old.
     fn see(&mut self, picture: u64, tid: u8)
-        ensures { self.new ≡ with_seen picture tid self.old }
+        ensures seen { self.new ≡ with_seen picture tid self.old }
+        ensures whole { IsWhole self.old.sights self.old.bases }
     {
-        if is_too_old(self.newest, picture) || self.slot(picture).is_some() {
-            return;
+        if is_recent(self.newest, picture) && self.slot(picture).is_none() {
+            self.newest = self.newest.max(picture);
+            self.sights[slot_of(picture)] = Some(Sight {
+                picture,
+                tid,
+                pulled: false,
+                key: false,
+            });
         }
-        self.newest = self.newest.max(picture);
-        self.sights[slot_of(picture)] = Some(Sight {
-            picture,
-            tid,
-            pulled: false,
-            key: false,
-        });
     }
 
     /// Remembers that a run was pulled.
     fn pull(&mut self, run: &Run)
-        ensures { self.new ≡ with_pulled run.now self.old }
+        ensures pulled { self.new ≡ with_pulled run.now self.old }
+        ensures whole { IsWhole self.old.sights self.old.bases }
     {
         if let Some(place) = run.layers {
             self.mark(place.picture, run.key);
@@ -258,15 +273,33 @@ impl Finder {
     }
 }
 
+/// Slots with nothing in them.
+fn nothing<T: Drop>(alloc: Global, count: u64) -> Result<Vec<Option<T>>, NoMemory>
+    ensures { IfOk result (λ slots. slots.items ≡ replicate count None) }
+{
+    let mut slots = Vec::new(alloc);
+    for _ in 0..count {
+        slots.push(None)?;
+    }
+    Ok(slots)
+}
+
 /// Meets a picture of TID `tid` on the walk for a frame of TID `top`: it counts if it is the first of its TID.
 fn meet(met: &mut ArrayVec<Sighting, 4>, top: u8, picture: u64, tid: u8)
     requires room { array_vec_len met.old < LAYERS }
     ensures met { met.new.items ≡ met_with top picture tid met.old.items }
     ensures more { array_vec_len met.new ≤ array_vec_len met.old + 1 }
 {
-    if tid <= top && !met.as_slice().iter().any(|s| s.tid == tid) {
+    if tid <= top && !was_met(met.as_slice(), tid) {
         met.push(Sighting { picture, tid });
     }
+}
+
+/// Whether a TID was met.
+fn was_met(met: &[Sighting], tid: u8) -> bool
+    ensures { result ≡ was_met tid met.now }
+{
+    met.iter().any(|sighting| sighting.tid == tid)
 }
 
 /// Whether all TIDs up to this one were met.
@@ -293,11 +326,11 @@ fn is_passed_before(passed: Option<u64>, first: u64) -> bool
     }
 }
 
-/// Whether a picture is at most the newest one minus 4,096.
-fn is_too_old(newest: u64, picture: u64) -> bool
-    ensures { result ≡ is_too_old newest picture }
+/// Whether a picture is above the newest one minus 4,096.
+fn is_recent(newest: u64, picture: u64) -> bool
+    ensures { result ≡ is_recent newest picture }
 {
-    newest >= picture && newest - picture >= MEMORY
+    newest < picture || newest - picture < MEMORY
 }
 
 /// The slot of a picture.
