@@ -6,12 +6,14 @@
 
 mod finder;
 mod judged;
+mod laws;
 pub mod limits;
 mod sight;
 mod sighting;
 
 pub use finder::Finder;
 pub use judged::Judged;
+pub use laws::{follows_references, references_are};
 pub use sighting::Sighting;
 
 #[cfg(test)]
