@@ -1,6 +1,6 @@
 -- What a finder judges is what the definition judges.
-use Rattle.std.proofs.Common.{◌≡◌, ◌≢◌, ℕ, ◌+◌, ◌-◌, ◌%◌, ◌<◌, ◌≤◌, Bool, true, false, cond, List, [], ◌∷◌, refl, sym, ◌∙◌, ap, subst, arith, inl, inr}
-use Rattle.std.specs.Prelude.{◌&&◌, ◌||◌, ◌==◌, not, Option, Some, None, is_some, map}
+use Rattle.std.proofs.Common.{◌≡◌, ℕ, ◌+◌, ◌-◌, ◌%◌, ◌<◌, Bool, true, false, cond, List, [], ◌∷◌, refl, sym, ◌∙◌, ap, arith}
+use Rattle.std.specs.Prelude.{◌&&◌, ◌||◌, ◌==◌, not, Option, Some, None, is_some}
 use Rattle.std.specs.Bool.{OnFalse}
 use Rattle.std.specs.List.{filter, list_all}
 use Rattle.std.specs.Option.{option_map, option_map_or}
@@ -10,9 +10,11 @@ use Rattle.vrx_codec.specs.declared.run.Place.{Place}
 use Rattle.vrx_codec.specs.declared.run.Run.{Run}
 use Rattle.vrx_refs.specs.declared.sight.Sight.{Sight}
 use Rattle.vrx_refs.specs.declared.sighting.Sighting.{Sighting}
+use Rattle.vrx_refs.specs.declared.walk.Step.{Step}
+use Rattle.vrx_refs.specs.declared.walk.Step.TheVariants.{Lost, Ended, On}
 use Rattle.vrx_refs.specs.declared.limits.TheConstants.{INDEXES, REACH}
 use Rattle.vrx_refs.specs.Finder.{Finder, base_at, sight_at}
-use Rattle.vrx_refs.specs.Kept.{has_index, is_key_at, is_pulled_at, judge_base, judge_by, judge_layers, judge_next, judge_place, judge_walk, tid_at, walk_at}
+use Rattle.vrx_refs.specs.Kept.{has_index, is_key_at, is_pulled_at, judge_base, judge_by, judge_layers, judge_next, judge_place, judge_walk, met_at, step_at, step_by, tid_at, walk_at}
 use Rattle.vrx_refs.specs.Knows.{Knows, sight_of}
 use Rattle.vrx_refs.specs.References.{are_met, base, base_by, base_reference, counts, is_placed_at, judge, judge_delta, Key, met_with, Needs, pictures, references, seen, Unknown, waits_for, walk, walked, was_pulled, was_pulled_key}
 use Rattle.vrx_refs.proofs.WalkLemmas.{walk_all, walk_further, walk_same}
@@ -26,23 +28,31 @@ module _ (finder : Finder) (tid most p : ℕ) (met : List Sighting) (some : 0 < 
       ≡ walked (is_key_at finder) tid (p - 1) (walk_on (most - 1) (p - 1)) met (tid_at finder (p - 1))
   further = walk_further (tid_at finder) (is_key_at finder) tid most p met some below
 
-  pub not_seen : sight_at finder (p - 1) ≡ None → walk_on most p met ≡ None
-  not_seen is = further
-      ∙ ap (λ o. walked (is_key_at finder) tid (p - 1) (walk_on (most - 1) (p - 1)) met (option_map (λ s. s.tid) o)) is
+  -- where it comes to, by what the picture makes of it
+  abbrev walk_by : Step → List Sighting → Option (List ℕ)
+  walk_by Lost next = None
+  walk_by Ended next = Some (pictures next)
+  walk_by On next = walk_on (most - 1) (p - 1) next
 
-  module _ (s : Sight) (is : sight_at finder (p - 1) ≡ Some s) (next : List Sighting)
-      (next_is : next ≡ met_with tid (p - 1) s.tid met) where
-    walks : walk_on most p met ≡ cond (are_met tid next || s.key) (Some (pictures next)) (walk_on (most - 1) (p - 1) next)
-    walks = further
-        ∙ ap (λ o. walked (is_key_at finder) tid (p - 1) (walk_on (most - 1) (p - 1)) met (option_map (λ s. s.tid) o)) is
-        ∙ (λ i. cond (are_met tid (sym next_is i) || option_map_or (λ s. s.key) (is i) false)
-        (Some (pictures (sym next_is i))) (walk_on (most - 1) (p - 1) (sym next_is i)))
+  walk_steps : walk_on most p met ≡ walk_by (step_at finder tid (p - 1) met) (met_at finder tid (p - 1) met)
+  walk_steps = further ∙ by (sight_at finder (p - 1)) refl where
+    by : (o : Option Sight) → sight_at finder (p - 1) ≡ o
+        → walked (is_key_at finder) tid (p - 1) (walk_on (most - 1) (p - 1)) met (option_map (λ s. s.tid) o)
+        ≡ walk_by (step_by tid (p - 1) met o) (option_map_or (λ s. met_with tid (p - 1) s.tid met) o met)
+    by None is = refl
+    by (Some s) is = ap (λ o. cond (are_met tid next || option_map_or (λ s. s.key) o false) (Some (pictures next))
+        (walk_on (most - 1) (p - 1) next)) is ∙ case (are_met tid next || s.key) where
+          next : List Sighting
+          next = met_with tid (p - 1) s.tid met
 
-    pub walk_ends : (are_met tid next || s.key) ≡ true → walk_on most p met ≡ Some (pictures next)
-    walk_ends ends = walks ∙ ap (λ b. cond b (Some (pictures next)) (walk_on (most - 1) (p - 1) next)) ends
+          case : (b : Bool) → cond b (Some (pictures next)) (walk_on (most - 1) (p - 1) next) ≡ walk_by (cond b Ended On) next
+          case true = refl
+          case false = refl
 
-    pub walk_goes_on : (are_met tid next || s.key) ≡ false → walk_on most p met ≡ walk_on (most - 1) (p - 1) next
-    walk_goes_on on = walks ∙ ap (λ b. cond b (Some (pictures next)) (walk_on (most - 1) (p - 1) next)) on
+  -- the same, by what a call says of it
+  pub walk_stepped : (step : Step) (next : List Sighting) → step ≡ step_at finder tid (p - 1) met
+      → next ≡ met_at finder tid (p - 1) met → walk_on most p met ≡ walk_by step next
+  walk_stepped step next step_is next_is = walk_steps ∙ (λ i. walk_by (sym step_is i) (sym next_is i))
 
 -- a base was pulled
 base_pulled : (pulled : List Run) (index b : ℕ) → base pulled index ≡ Some b → was_pulled pulled b ≡ true

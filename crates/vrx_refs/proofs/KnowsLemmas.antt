@@ -2,15 +2,15 @@
 use Rattle.std.proofs.Common.{◌≡◌, ◌≢◌, ℕ, ◌+◌, ◌%◌, ◌<◌, ◌≤◌, Bool, true, false, cond, List, [], ◌∷◌, length, replicate, refl, sym, ◌∙◌, ap, subst, arith, inl, inr}
 use Rattle.std.specs.Prelude.{◌⊎◌, ◌&&◌, ◌||◌, ◌==◌, max, Option, Some, None, is_none, is_some, slice_index_or, slice_set}
 use Rattle.std.specs.Option.{option_map}
-use Rattle.std.proofs.lemmas.Bool.{eq-eqb, ne_eqb, lt-ltb, cases_eq, cases_lt, cases_Bool, or_cases, ltb-true, ltb-false}
+use Rattle.std.proofs.lemmas.Bool.{eq-eqb, ne_eqb, lt-ltb, cases_eq, cases_lt, cases_Bool, ltb-true, ltb-false}
 use Rattle.std.proofs.lemmas.Grind.{common_steps}
-use Rattle.std.proofs.lemmas.List.{get_or-set_same, get_or-set_other, get_or-replicate, length-replicate, length-set}
+use Rattle.std.proofs.lemmas.List.{get_or-set_same, get_or-set_other, get_or-replicate}
 use Rattle.vrx_codec.specs.declared.run.Place.{Place}
 use Rattle.vrx_codec.specs.declared.run.Run.{Run}
 use Rattle.vrx_refs.specs.declared.limits.TheConstants.{INDEXES, MEMORY}
 use Rattle.vrx_refs.specs.declared.sight.Sight.{Sight}
 use Rattle.vrx_refs.specs.declared.sighting.Sighting.{Sighting}
-use Rattle.vrx_refs.specs.Finder.{Finder, IsWhole, base_at, said_of, sight_at, slot_at}
+use Rattle.vrx_refs.specs.Finder.{Finder, IsWhole, said_of, sight_at, slot_at}
 use Rattle.vrx_refs.specs.Kept.{marked, new_sight, with_base, with_mark, with_marked, with_place, with_pulled, with_seen}
 use Rattle.vrx_refs.specs.Knows.{Knows, sight_of}
 use Rattle.vrx_refs.specs.References.{base, base_by, first_of, first_tid, is_of_picture, is_placed_at, is_recent, newest_of, seen, was_carried, was_pulled, was_pulled_key}
@@ -142,10 +142,10 @@ module _ (finder : Finder) (told : List Sighting) (pulled : List Run) (p t : ℕ
     seen_same : (q : ℕ) (b : Bool) → is_recent finder.newest q ≡ b → seen (this ∷ told) q ≡ seen told q
     seen_same q b is = ap (λ n. cond (is_recent n q) (first_tid q (this ∷ told)) None) (same_newest ∙ sym knows.newest)
         ∙ by b is ∙ ap (λ n. cond (is_recent n q) (first_tid q told) None) knows.newest where
-      by : (b : Bool) → is_recent finder.newest q ≡ b
-          → cond (is_recent finder.newest q) (first_tid q (this ∷ told)) None ≡ cond (is_recent finder.newest q) (first_tid q told) None
-      by true is = ap (λ o. cond (is_recent finder.newest q) o None) (first_same q is)
-      by false is = ap (λ b. cond b (first_tid q (this ∷ told)) None) is ∙ ap (λ b. cond b (first_tid q told) None) (sym is)
+          by : (b : Bool) → is_recent finder.newest q ≡ b
+              → cond (is_recent finder.newest q) (first_tid q (this ∷ told)) None ≡ cond (is_recent finder.newest q) (first_tid q told) None
+          by true is = ap (λ o. cond (is_recent finder.newest q) o None) (first_same q is)
+          by false is = ap (λ b. cond b (first_tid q (this ∷ told)) None) is ∙ ap (λ b. cond b (first_tid q told) None) (sym is)
 
     knows_kept : Knows finder (this ∷ told) pulled
     knows_kept = record {
@@ -183,9 +183,9 @@ module _ (finder : Finder) (told : List Sighting) (pulled : List Run) (p t : ℕ
     slot_next = slot_here finder.sights size p (new_sight p t) refl
         ∙ is_new (was_pulled pulled p) (was_pulled_key pulled p) never_pulled (key_pulled pulled p never_pulled)
         ∙ ap (option_map (sight_of pulled p)) (sym (first_here p t (first_tid p told) never_told)) where
-      is_new : (a b : Bool) → a ≡ false → b ≡ false
-          → Some (new_sight p t) ≡ Some (record { picture = p; tid = t; pulled = a; key = b })
-      is_new a b not_a not_b = grind (arith, not_a, not_b)
+          is_new : (a b : Bool) → a ≡ false → b ≡ false
+              → Some (new_sight p t) ≡ Some (record { picture = p; tid = t; pulled = a; key = b })
+          is_new a b not_a not_b = grind (arith, not_a, not_b)
 
     -- another picture that is recent keeps what it had
     slot_kept : (q : ℕ) → q ≢ p → is_recent next.newest q ≡ true
@@ -210,12 +210,12 @@ module _ (finder : Finder) (told : List Sighting) (pulled : List Run) (p t : ℕ
     sight_next q true young = ap (λ b. cond b (slot_at next.sights q) None) young ∙ slot
         ∙ ap (λ b. option_map (sight_of pulled q) (cond b (first_tid q (this ∷ told)) None))
         (sym (ap (λ n. is_recent n q) (sym newest_next) ∙ young)) where
-      slot : slot_at next.sights q ≡ option_map (sight_of pulled q) (first_tid q (this ∷ told))
-      slot = elim (cases_eq q p) [
-        | inl is ↦ subst (λ x. slot_at next.sights x ≡ option_map (sight_of pulled x) (first_tid x (this ∷ told))) (sym is) slot_next
-        | inr apart ↦ slot_kept q apart young
-            ∙ ap (option_map (sight_of pulled q)) (sym (first_other q p t (first_tid q told) apart))
-      ]
+          slot : slot_at next.sights q ≡ option_map (sight_of pulled q) (first_tid q (this ∷ told))
+          slot = elim (cases_eq q p) [
+            | inl is ↦ subst (λ x. slot_at next.sights x ≡ option_map (sight_of pulled x) (first_tid x (this ∷ told))) (sym is) slot_next
+            | inr apart ↦ slot_kept q apart young
+                ∙ ap (option_map (sight_of pulled q)) (sym (first_other q p t (first_tid q told) apart))
+          ]
     sight_next q false old = ap (λ b. cond b (slot_at next.sights q) None) old
         ∙ ap (λ b. option_map (sight_of pulled q) (cond b (first_tid q (this ∷ told)) None))
         (sym (ap (λ n. is_recent n q) (sym newest_next) ∙ old))
@@ -378,8 +378,8 @@ module _ (finder : Finder) (told : List Sighting) (pulled : List Run) (run : Run
     beyond_after : (q : ℕ) → newest_of told < q → slot_at then q ≡ None
     beyond_after q more = mark_other finder.sights whole.slots p run.key q (slot_at finder.sights p) refl apart
         ∙ knows.beyond q more where
-      apart : q ≢ p
-      apart is = grind (arith, sym (ap is_some (first_tid_beyond told p (subst (λ x. newest_of told < x) is more))) ∙ carried)
+          apart : q ≢ p
+          apart is = grind (arith, sym (ap is_some (first_tid_beyond told p (subst (λ x. newest_of told < x) is more))) ∙ carried)
 
     carried_after : (q : ℕ) → was_pulled (run ∷ pulled) q ≡ true → is_some (first_tid q told) ≡ true
     carried_after q there = elim (cases_eq q p) [

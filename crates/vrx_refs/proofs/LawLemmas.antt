@@ -1,8 +1,8 @@
 -- What a walk gives, and what a judgement says of references.
 use Rattle.std.proofs.Common.{◌≡◌, ◌≢◌, ℕ, zero, suc, ◌+◌, ◌-◌, ◌%◌, ◌<◌, ◌≤◌, Bool, true, false, cond, List, [], ◌∷◌, length, refl, sym, ◌∙◌, ap, subst, arith, inl, inr}
-use Rattle.std.specs.Prelude.{◌⊎◌, ◌↔◌, ◌&&◌, ◌||◌, ◌==◌, ◌++◌, not, nat_le, nat_lt, Option, Some, None, is_some, IsSomeAnd, map}
-use Rattle.std.specs.List.{filter, list_any}
-use Rattle.std.proofs.lemmas.Bool.{and_parts, cases_lt, cond-false, ltb-true, ne_eqb, cases_order, eqb-true, eq-eqb, leb-true, le-leb, or_cases, or_left, or_right, and_from}
+use Rattle.std.specs.Prelude.{◌&&◌, ◌||◌, ◌==◌, ◌++◌, not, nat_le, nat_lt, Option, Some, None, is_some, IsSomeAnd}
+use Rattle.std.specs.List.{filter}
+use Rattle.std.proofs.lemmas.Bool.{and_parts, cases_lt, cond-false, ltb-true, ne_eqb, cases_order, eqb-true, eq-eqb, leb-true, le-leb, or_cases, or_left, or_parts, or_right}
 use Rattle.std.proofs.lemmas.List.{length-map}
 use Rattle.std.proofs.lemmas.Option.{same_Some}
 use Rattle.vrx_codec.specs.declared.run.Place.{Place}
@@ -33,13 +33,16 @@ module _ (tids : ℕ → Option ℕ) (stop : ℕ → Bool) (tid top : ℕ) where
 
   lower : (q : ℕ) (met : List Sighting) → AreMetFrom (suc q) met → AreMetFrom q met
   lower q [] are = tt
-  lower q (s ∷ met) are = (record {
-    above = omega (arith, are.0.above);
-    under = are.0.under;
-    has = are.0.has;
-    low = are.0.low;
-    first = are.0.first;
-  }, lower q met are.1)
+  lower q (s ∷ met) are = (
+    record {
+      above = omega (arith, are.0.above);
+      under = are.0.under;
+      has = are.0.has;
+      low = are.0.low;
+      first = are.0.first;
+    },
+    lower q met are.1,
+  )
 
   appended : (q : ℕ) (met : List Sighting) (s : Sighting) → AreMetFrom q met → IsMetFrom q s → AreMetFrom q (met ++ (s ∷ []))
   appended q [] s are is = (is, tt)
@@ -108,8 +111,9 @@ module _ (tids : ℕ → Option ℕ) (stop : ℕ → Bool) (tid top : ℕ) where
     omega (arith, is.above, same),
     omega (arith, is.under, same),
     subst (λ y. IsFirst tids tid top y) same
-    (subst (λ o. IsSomeAnd o (λ t. (t ≤ tid) × ((r : ℕ) → s.picture < r → r < top → tids r ≢ Some t))) (sym is.has)
-    (is.low, is.first)))
+        (subst (λ o. IsSomeAnd o (λ t. (t ≤ tid) × ((r : ℕ) → s.picture < r → r < top → tids r ≢ Some t))) (sym is.has)
+        (is.low, is.first)),
+  )
 
   among_first : (p : ℕ) (met : List Sighting) (x : ℕ) → AreMetFrom p met → is_among x (pictures met) ≡ true
       → (p ≤ x) × (x < top) × IsFirst tids tid top x
@@ -133,12 +137,14 @@ module _ (tids : ℕ → Option ℕ) (stop : ℕ → Bool) (tid top : ℕ) where
   ]
 
   -- a walk that ends here
-  walk_ended : (q : ℕ) (met : List Sighting) → q < top → HasMet q met → (are_met tid met || stop q) ≡ true
+  walk_ended : (q : ℕ) (met : List Sighting) → q < top → HasMet q met → ((r : ℕ) → q < r → r < top → stop r ≡ false)
+      → (are_met tid met || stop q) ≡ true
       → HasWalked tids stop tid top q (pictures met)
-  walk_ended q met under has ends = record {
+  walk_ended q met under has on ends = record {
     below = under;
     seen = has.seen;
     firsts = λ x. (among_first q met x has.sound, there x);
+    goes_on = on;
     ends = elim (or_cases (are_met tid met) (stop q) ends) [
       | inl all ↦ inl (length-map met (λ s. s.picture) ∙ eqb-true (length met) (tid + 1) all)
       | inr stops ↦ inr stops
@@ -153,29 +159,42 @@ module _ (tids : ℕ → Option ℕ) (stop : ℕ → Bool) (tid top : ℕ) where
 
   -- a walk that goes on
   walk_from : (most p : ℕ) (met : List Sighting) (found : List ℕ) → p ≤ top → HasMet p met
+      → ((r : ℕ) → p ≤ r → r < top → stop r ≡ false)
       → walk tids stop tid most p met ≡ Some found → (last : ℕ) × (p ≤ last + most) × HasWalked tids stop tid top last found
-  walk_from zero p met found low has is = grind (arith, is)
-  walk_from (suc most) zero met found low has is = grind (arith, is)
-  walk_from (suc most) (suc q) met found low has is =
-      by q most met found low has (λ next has_next is. walk_from most q next found (omega (arith, low)) has_next is) (tids q) refl is where
-    by : (q most : ℕ) (met : List Sighting) (found : List ℕ) → suc q ≤ top → HasMet (suc q) met
-        → ((next : List Sighting) → HasMet q next → walk tids stop tid most q next ≡ Some found
-        → (last : ℕ) × (q ≤ last + most) × HasWalked tids stop tid top last found)
-        → (o : Option ℕ) → tids q ≡ o → walked stop tid q (walk tids stop tid most q) met o ≡ Some found
-        → (last : ℕ) × (suc q ≤ last + suc most) × HasWalked tids stop tid top last found
-    by q most met found low has on None is ends = grind (arith, ends)
-    by q most met found low has on (Some t) is ends = case (are_met tid next || stop q) refl ends where
-      next : List Sighting
-      next = met_with tid q t met
+  walk_from zero p met found low has on is = grind (arith, is)
+  walk_from (suc most) zero met found low has on is = grind (arith, is)
+  walk_from (suc most) (suc q) met found low has on is =
+      by q most met found low has on (λ next has_next on_next is. walk_from most q next found (omega (arith, low)) has_next on_next is)
+      (tids q) refl is where
+        by : (q most : ℕ) (met : List Sighting) (found : List ℕ) → suc q ≤ top → HasMet (suc q) met
+            → ((r : ℕ) → suc q ≤ r → r < top → stop r ≡ false)
+            → ((next : List Sighting) → HasMet q next → ((r : ℕ) → q ≤ r → r < top → stop r ≡ false) → walk tids stop tid most q next ≡ Some found
+            → (last : ℕ) × (q ≤ last + most) × HasWalked tids stop tid top last found)
+            → (o : Option ℕ) → tids q ≡ o → walked stop tid q (walk tids stop tid most q) met o ≡ Some found
+            → (last : ℕ) × (suc q ≤ last + suc most) × HasWalked tids stop tid top last found
+        by q most met found low has on more None is ends = grind (arith, ends)
+        by q most met found low has on more (Some t) is ends = case (are_met tid next || stop q) refl ends where
+          next : List Sighting
+          next = met_with tid q t met
 
-      has_it : HasMet q next
-      has_it = has_next q t met (omega (arith, low)) is has
+          has_it : HasMet q next
+          has_it = has_next q t met (omega (arith, low)) is has
 
-      case : (b : Bool) → (are_met tid next || stop q) ≡ b → cond b (Some (pictures next)) (walk tids stop tid most q next) ≡ Some found
-          → (last : ℕ) × (suc q ≤ last + suc most) × HasWalked tids stop tid top last found
-      case true stops given = (q, omega arith, subst (λ xs. HasWalked tids stop tid top q xs) (same_Some _ _ given)
-          (walk_ended q next (omega (arith, low)) has_it stops))
-      case false goes given = let (last, near, walked) = on next has_it given in (last, omega (arith, near), walked)
+          on_it : stop q ≡ false → (r : ℕ) → q ≤ r → r < top → stop r ≡ false
+          on_it here r above under = elim (cases_lt q r) [
+            | inl above ↦ on r above under
+            | inr same ↦ ap stop (omega (arith, above, same)) ∙ here
+          ]
+
+          case : (b : Bool) → (are_met tid next || stop q) ≡ b → cond b (Some (pictures next)) (walk tids stop tid most q next) ≡ Some found
+              → (last : ℕ) × (suc q ≤ last + suc most) × HasWalked tids stop tid top last found
+          case true stops given = (
+            q,
+            omega arith,
+            subst (λ xs. HasWalked tids stop tid top q xs) (same_Some _ _ given)
+                (walk_ended q next (omega (arith, low)) has_it on stops),
+          )
+          case false goes given = let (last, near, walked) = more next has_it (on_it (or_parts (are_met tid next) (stop q) goes).1) given in (last, omega (arith, near), walked)
 
 -- what a walk gives
 pub walks_back : WalksBack
@@ -183,7 +202,7 @@ walks_back tids stop tid most p found is = walk_from tids stop tid p most p [] f
   sound = tt;
   whole = λ r t above under _ _. grind (arith, above, under);
   seen = λ r above under. grind (arith, above, under);
-}) is
+}) (λ r above under. grind (arith, above, under)) is
 
 -- what a frame with neither TID 0 nor Y refers to is what a walk gives
 references-walked : (told : List Sighting) (pulled : List Run) (place : Place) → place.tid ≢ 0 → place.sync ≡ false
@@ -194,7 +213,7 @@ references-walked told pulled place high plain =
 pub are_walked : AreWalked
 are_walked told pulled place found high plain is =
     let (last, near, walked) = walks_back (seen told) (was_pulled_key pulled) place.tid REACH place.picture found
-        (sym (references-walked told pulled place high plain) ∙ is) in
+    (sym (references-walked told pulled place high plain) ∙ is) in
     (last, walked)
 
 -- a base that counts is near, and so is what a walk gives
@@ -250,8 +269,8 @@ pub follows_references : FollowsReferences
 follows_references told pulled passed run place layers is =
     by run.key (references told pulled place)
     (ap (λ o. cond run.key Key (judge_delta told pulled passed run.first o)) (sym layers) ∙ is) where
-  by : (key : Bool) (o : Option (List ℕ)) → cond key Key (waits_for pulled o) ≡ Needs []
-      → IsSomeAnd o (λ found. (q : ℕ) → is_among q found ≡ true → was_pulled pulled q ≡ true)
-  by true o is = grind (arith, ap waiting is)
-  by false None is = grind (arith, ap waiting is)
-  by false (Some found) is = all_pulled (was_pulled pulled) found (ap waiting is)
+      by : (key : Bool) (o : Option (List ℕ)) → cond key Key (waits_for pulled o) ≡ Needs []
+          → IsSomeAnd o (λ found. (q : ℕ) → is_among q found ≡ true → was_pulled pulled q ≡ true)
+      by true o is = grind (arith, ap waiting is)
+      by false None is = grind (arith, ap waiting is)
+      by false (Some found) is = all_pulled (was_pulled pulled) found (ap waiting is)

@@ -1,6 +1,6 @@
 -- Walks back over pictures.
-use Rattle.std.proofs.Common.{◌≡◌, ◌≢◌, ℕ, zero, suc, ◌+◌, ◌-◌, ◌<◌, ◌≤◌, Bool, true, false, cond, List, [], ◌∷◌, refl, sym, ◌∙◌, ap, subst, arith, inl, inr}
-use Rattle.std.specs.Prelude.{◌&&◌, ◌||◌, not, nat_le, ◌++◌, Option, Some, None, is_some, map}
+use Rattle.std.proofs.Common.{◌≡◌, ℕ, zero, suc, ◌-◌, ◌<◌, Bool, true, false, cond, List, [], ◌∷◌, refl, sym, ◌∙◌, ap, subst, arith}
+use Rattle.std.specs.Prelude.{◌&&◌, ◌||◌, not, nat_le, ◌++◌, Option, Some, None}
 use Rattle.std.specs.List.{list_all}
 use Rattle.std.proofs.lemmas.Bool.{and_from, and_parts}
 use Rattle.std.proofs.lemmas.Option.{same_Some}
@@ -64,14 +64,14 @@ module _ (tids : ℕ → Option ℕ) (stop : ℕ → Bool) (tid : ℕ) (ok : ℕ
   walk_all (suc most) zero met all found is = grind (arith, is)
   walk_all (suc most) (suc q) met all found is = all_walked q met all found (walk tids stop tid most q)
       (λ next more. walk_all most q next more found) (tids q) refl is where
-    all_walked : (q : ℕ) (met : List Sighting) → list_all ok (pictures met) ≡ true → (found : List ℕ)
-        → (on : List Sighting → Option (List ℕ))
-        → ((next : List Sighting) → list_all ok (pictures next) ≡ true → on next ≡ Some found → list_all ok found ≡ true)
-        → (o : Option ℕ) → tids q ≡ o → walked stop tid q on met o ≡ Some found → list_all ok found ≡ true
-    all_walked q met all found on more None has is = grind (arith, is)
-    all_walked q met all found on more (Some t) has is =
-        by (are_met tid (met_with tid q t met) || stop q) is where
-      by : (b : Bool) → cond b (Some (pictures (met_with tid q t met))) (on (met_with tid q t met)) ≡ Some found
-          → list_all ok found ≡ true
-      by true is = subst (λ xs. list_all ok xs ≡ true) (same_Some _ _ is) (all_met q t met has all)
-      by false is = more (met_with tid q t met) (all_met q t met has all) is
+        all_walked : (q : ℕ) (met : List Sighting) → list_all ok (pictures met) ≡ true → (found : List ℕ)
+            → (on : List Sighting → Option (List ℕ))
+            → ((next : List Sighting) → list_all ok (pictures next) ≡ true → on next ≡ Some found → list_all ok found ≡ true)
+            → (o : Option ℕ) → tids q ≡ o → walked stop tid q on met o ≡ Some found → list_all ok found ≡ true
+        all_walked q met all found on more None has is = grind (arith, is)
+        all_walked q met all found on more (Some t) has is =
+            by (are_met tid (met_with tid q t met) || stop q) is where
+              by : (b : Bool) → cond b (Some (pictures (met_with tid q t met))) (on (met_with tid q t met)) ≡ Some found
+                  → list_all ok found ≡ true
+              by true is = subst (λ xs. list_all ok xs ≡ true) (same_Some _ _ is) (all_met q t met has all)
+              by false is = more (met_with tid q t met) (all_met q t met has all) is

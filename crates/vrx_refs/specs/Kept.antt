@@ -6,8 +6,11 @@ use Rattle.vrx_codec.specs.declared.run.Place.{Place}
 use Rattle.vrx_codec.specs.declared.run.Run.{Run}
 use Rattle.vrx_refs.specs.declared.limits.TheConstants.{INDEXES, MEMORY, REACH}
 use Rattle.vrx_refs.specs.declared.sight.Sight.{Sight}
+use Rattle.vrx_refs.specs.declared.sighting.Sighting.{Sighting}
+use Rattle.vrx_refs.specs.declared.walk.Step.{Step}
+use Rattle.vrx_refs.specs.declared.walk.Step.TheVariants.{Lost, Ended, On}
 use Rattle.vrx_refs.specs.Finder.{Finder, base_at, sight_at, slot_at}
-use Rattle.vrx_refs.specs.References.{Judgement, Key, Needs, Unknown, counts, is_passed_before, is_recent, walk}
+use Rattle.vrx_refs.specs.References.{Judgement, Key, Needs, Unknown, are_met, counts, is_passed_before, is_recent, met_with, walk}
 
 -- a picture seen for the first time
 abbrev pub new_sight : (picture tid : ℕ) → Sight
@@ -65,6 +68,18 @@ is_pulled_at finder q = option_map_or (λ s. s.pulled) (sight_at finder q) false
 
 abbrev pub is_key_at : Finder → ℕ → Bool
 is_key_at finder q = option_map_or (λ s. s.key) (sight_at finder q) false
+
+-- what one picture makes of a walk
+abbrev pub step_by : (tid q : ℕ) → List Sighting → Option Sight → Step
+step_by tid q met None = Lost
+step_by tid q met (Some sight) = if are_met tid (met_with tid q sight.tid met) || sight.key then Ended else On
+
+abbrev pub step_at : Finder → (tid q : ℕ) → List Sighting → Step
+step_at finder tid q met = step_by tid q met (sight_at finder q)
+
+-- and of what was met
+abbrev pub met_at : Finder → (tid q : ℕ) → List Sighting → List Sighting
+met_at finder tid q met = option_map_or (λ sight. met_with tid q sight.tid met) (sight_at finder q) met
 
 -- the walk back from a frame
 abbrev pub walk_at : Finder → Place → Option (List ℕ)

@@ -1,5 +1,5 @@
 -- What a finder has to do with what was told and pulled.
-use Rattle.std.specs.Prelude.{◌≡◌, ℕ, ◌<◌, true, List, Option, None, is_some}
+use Rattle.std.specs.Prelude.{◌≡◌, ℕ, ◌<◌, true, List, None, is_some}
 use Rattle.std.specs.Option.{option_map}
 use Rattle.vrx_codec.specs.declared.run.Run.{Run}
 use Rattle.vrx_refs.specs.declared.limits.TheConstants.{INDEXES}

@@ -17,11 +17,12 @@ IsFirst tids tid p q = IsSomeAnd (tids q) (λ t. (t ≤ tid) × ((r : ℕ) → q
 
 -- A walk back from picture p came to picture `last`. Each picture on the way is seen. What it gives is the pictures on
 -- the way that are the first of their TIDs. It ends where there are as many of them as TIDs up to this one, or where
--- it may stop.
+-- it may stop, and it may stop nowhere before.
 pub record HasWalked (tids : ℕ → Option ℕ) (stop : ℕ → Bool) (tid p last : ℕ) (found : List ℕ) : Type 0 where
   pub below : last < p
   pub seen : (q : ℕ) → last ≤ q → q < p → is_some (tids q) ≡ true
   pub firsts : (q : ℕ) → (is_among q found ≡ true) ↔ ((last ≤ q) × (q < p) × IsFirst tids tid p q)
+  pub goes_on : (q : ℕ) → last < q → q < p → stop q ≡ false
   pub ends : (length found ≡ tid + 1) ⊎ (stop last ≡ true)
 
 -- what a walk gives, whatever the TIDs of pictures are, and wherever it may stop: it comes at most so many pictures

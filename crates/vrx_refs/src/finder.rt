@@ -7,16 +7,18 @@ ghost use Rattle.arrayvec.specs.ArrayVec.{array_vec_len};
 ghost use Rattle.vrx_codec.specs.declared.run.Run.{Run};
 ghost use Rattle.vrx_refs.specs.declared.limits.TheConstants.{INDEXES, LAYERS, MEMORY, REACH};
 ghost use Rattle.vrx_refs.specs.declared.sighting.Sighting.{Sighting};
+ghost use Rattle.vrx_refs.specs.declared.walk.Step.TheVariants as Step;
 ghost use Rattle.vrx_refs.specs.Finder.{IsWhole, base_at, sight_at, slot_at};
-ghost use Rattle.vrx_refs.specs.Kept.{has_index, is_pulled_at, judge_base, judge_by, judge_next, judge_place, not_pulled_at, walk_at, with_base, with_mark, with_pulled, with_seen};
+ghost use Rattle.vrx_refs.specs.Kept.{has_index, is_pulled_at, judge_base, judge_by, judge_next, judge_place, met_at, not_pulled_at, step_at, walk_at, with_base, with_mark, with_pulled, with_seen};
 ghost use Rattle.vrx_refs.specs.Knows.{Knows};
-ghost use Rattle.vrx_refs.specs.References.{are_met, counts, has_layer, is_passed_before, is_recent, judge, met_with, pictures, was_carried, was_met};
+ghost use Rattle.vrx_refs.specs.References.{counts, has_layer, is_passed_before, is_recent, judge, pictures, was_carried};
 ghost use Rattle.vrx_refs.specs.View.{view};
 
 use crate::judged::Judged;
 use crate::limits::{INDEXES, MEMORY, REACH};
 use crate::sight::Sight;
 use crate::sighting::Sighting;
+use crate::walk::{Step, are_met, meet};
 use arrayvec::ArrayVec;
 use std::alloc::Global;
 use std::marker::Model;
@@ -152,15 +154,32 @@ impl Finder {
                 return None;
             }
             below -= 1;
-            let Some(sight) = self.sight(below) else {
-                return None;
-            };
-            meet(&mut met, place.tid, below, sight.tid);
-            if are_met(&met, place.tid) || sight.key {
-                return Some(met);
+            match self.step(&mut met, place.tid, below) {
+                Step::Lost => return None,
+                Step::Ended => return Some(met),
+                Step::On => {}
             }
         }
         None
+    }
+
+    /// Goes on to a picture, on the walk back from a frame of this TID.
+    fn step(&self, met: &mut ArrayVec<Sighting, 4>, tid: u8, picture: u64) -> Step
+        requires layer { tid < LAYERS }
+        requires few { array_vec_len met.old ≤ tid }
+        ensures step { result ≡ step_at self.now tid picture met.old.items }
+        ensures met { met.new.items ≡ met_at self.now tid picture met.old.items }
+        ensures few { result ≡ Step.On → array_vec_len met.new ≤ tid }
+    {
+        let Some(sight) = self.sight(picture) else {
+            return Step::Lost;
+        };
+        meet(met, tid, picture, sight.tid);
+        if are_met(met, tid) || sight.key {
+            Step::Ended
+        } else {
+            Step::On
+        }
     }
 
     /// The pictures met that weren't pulled.
@@ -282,31 +301,6 @@ fn nothing<T: Drop>(alloc: Global, count: u64) -> Result<Vec<Option<T>>, NoMemor
         slots.push(None)?;
     }
     Ok(slots)
-}
-
-/// Meets a picture of TID `tid` on the walk for a frame of TID `top`: it counts if it is the first of its TID.
-fn meet(met: &mut ArrayVec<Sighting, 4>, top: u8, picture: u64, tid: u8)
-    requires room { array_vec_len met.old < LAYERS }
-    ensures met { met.new.items ≡ met_with top picture tid met.old.items }
-    ensures more { array_vec_len met.new ≤ array_vec_len met.old + 1 }
-{
-    if tid <= top && !was_met(met.as_slice(), tid) {
-        met.push(Sighting { picture, tid });
-    }
-}
-
-/// Whether a TID was met.
-fn was_met(met: &[Sighting], tid: u8) -> bool
-    ensures { result ≡ was_met tid met.now }
-{
-    met.iter().any(|sighting| sighting.tid == tid)
-}
-
-/// Whether all TIDs up to this one were met.
-fn are_met(met: &ArrayVec<Sighting, 4>, top: u8) -> bool
-    ensures { result ≡ are_met top met.now.items }
-{
-    met.len() == usize::from(top) + 1
 }
 
 /// Whether a base lies 1 to 255 pictures below a picture.

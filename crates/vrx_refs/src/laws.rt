@@ -10,13 +10,11 @@ pub fn references_are()
     ensures near { AreNear }
     ensures walked { AreWalked }
     ensures walks { WalksBack }
-{
-}
+{}
 
 /// The law of deliverable frames with layers. The function does nothing.
 ///
 /// A frame that waits for nothing, and isn't key, refers to frames that are known, and each of them was pulled.
 pub fn follows_references()
     ensures { FollowsReferences }
-{
-}
+{}

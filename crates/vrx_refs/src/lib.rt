@@ -10,6 +10,7 @@ mod laws;
 pub mod limits;
 mod sight;
 mod sighting;
+mod walk;
 
 pub use finder::Finder;
 pub use judged::Judged;
