@@ -52,8 +52,8 @@ impl Finder {
     pub fn new(alloc: Global) -> Result<Finder, NoMemory>
         ensures knows { IfOk result (λ finder. Knows finder [] []) }
     {
-        let sights = nothing(alloc, MEMORY)?;
-        let bases = nothing(alloc, INDEXES)?;
+        let sights = nothing(alloc, MEMORY as usize)?;
+        let bases = nothing(alloc, INDEXES as usize)?;
         Ok(Finder {
             newest: 0,
             sights,
@@ -286,17 +286,23 @@ impl Finder {
         ensures sights { self.new.sights ≡ self.old.sights }
         ensures bases { self.new.bases ≡ with_base place self.old.bases }
     {
-        if place.tid == 0 {
-            self.bases[usize::from(place.tl0)] = Some(place.picture);
+        let Place {
+            picture,
+            tl0,
+            tid,
+            ..
+        } = place;
+        if tid == 0 {
+            self.bases[usize::from(tl0)] = Some(picture);
         }
     }
 }
 
 /// Slots with nothing in them.
-fn nothing<T: Drop>(alloc: Global, count: u64) -> Result<Vec<Option<T>>, NoMemory>
+fn nothing<T: Drop>(alloc: Global, count: usize) -> Result<Vec<Option<T>>, NoMemory>
     ensures { IfOk result (λ slots. slots.items ≡ replicate count None) }
 {
-    let mut slots = Vec::new(alloc);
+    let mut slots = Vec::with_capacity(alloc, count)?;
     for _ in 0..count {
         slots.push(None)?;
     }
