@@ -1,0 +1,6 @@
+pub mod Finder
+pub mod Kept
+pub mod Knows
+pub mod Laws
+pub mod References
+pub mod View
