@@ -10,7 +10,7 @@ use Rattle.vrx_capture.specs.Reader.{HasNoHead}
 use Rattle.vrx_text.specs.declared.transcript.ErrorReason.TheVariants as errors
 use Rattle.vrx_program.specs.Heads.{RefusesHeads}
 use Rattle.vrx_program.specs.Outcome.{status_of, error_text, refusal}
-use Rattle.vrx_program.specs.Job.{most_events, texts, bad_line, reading_outcome, Begins, IsRefused}
+use Rattle.vrx_program.specs.Job.{most_events, texts, bad_line, reading_outcome, Begins}
 use Rattle.vrx_program.specs.Inspect.{has_right_settings, is_head, inspected_event, inspections, inspected_reading, inspected_from, inspected_lines, inspection_outcome, inspecting}
 
 -- ---- the events

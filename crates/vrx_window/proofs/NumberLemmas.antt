@@ -1,8 +1,7 @@
 -- The numbers of a window, and their slots.
-use Rattle.std.proofs.Common.{◌≡◌, ◌≢◌, ℕ, zero, suc, ◌+◌, ◌-◌, ◌%◌, ◌<◌, true, false, ◌&&◌, refl, sym, arith}
+use Rattle.std.proofs.Common.{◌≡◌, ◌≢◌, ℕ, zero, suc, ◌+◌, ◌-◌, ◌%◌, ◌<◌, true, false, ◌&&◌, refl, arith}
 use Rattle.std.specs.Prelude.{nat_lt, nat_le, ◌==◌, Option, Some, None}
 use Rattle.std.specs.List.{range_with_len, list_any}
-use Rattle.std.proofs.lemmas.Bool.{true≢false}
 use Rattle.std.proofs.lemmas.Grind.{common_steps}
 use Rattle.vrx_num.specs.declared.limits.TheConstants.{WINDOW}
 use Rattle.vrx_window.specs.Window.{in_window, is_inside, is_too_old, newest_with}

@@ -9,7 +9,6 @@ use Rattle.std.proofs.lemmas.Option.{none-some, same_Some}
 use Rattle.vrx_rtp.specs.Packet.{Packet, Fits, IsPacket, first_octet, marker_and_type, fixed_header, extension_octets, padding_octets, octets_with}
 use Rattle.vrx_num.specs.Octets.{AreOctets}
 use Rattle.vrx_rtp.specs.Reading.{reading}
-use Rattle.vrx_rtp.specs.Rtcp.{IsRtcp}
 use Rattle.vrx_rtp.specs.declared.fault.RtpFault.{RtpFault}
 use Rattle.vrx_core.specs.machine.Text.{without_padding, packet_text, TextsHold}
 

@@ -19,7 +19,7 @@ use Rattle.vrx_frames.specs.Run.{Run, is_start, stands, stands_after_end, summar
 use Rattle.vrx_core.specs.machine.Standing.{no_layers}
 use Rattle.vrx_core.specs.relation.Frames.{is_deliverable, next_of, runs_from}
 use Rattle.vrx_core.specs.relation.StandsFor.{Assembly, shapes_of}
-use Rattle.vrx_core.specs.inside.Step.{AreTaken, IsKept, IsPulledAs, IsTakenAs, after_counting, lowest_of, packets_of, with_runs}
+use Rattle.vrx_core.specs.inside.Step.{AreTaken, IsKept, IsPulledAs, IsTakenAs, lowest_of, packets_of, with_runs}
 use Rattle.vrx_core.proofs.relation.ListLemmas.{filter-map, find-among, map-from, rises-from}
 use Rattle.vrx_core.proofs.relation.RunMoveLemmas.{standing-by, standing-from, stands-beyond}
 use Rattle.vrx_core.proofs.relation.FrontLemmas.{GoesOn}

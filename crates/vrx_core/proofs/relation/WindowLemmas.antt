@@ -1,5 +1,5 @@
 -- What stands under the numbers of a window after a packet was placed.
-use Rattle.std.proofs.Common.{◌≡◌, ◌≢◌, ℕ, ◌+◌, ◌<◌, ◌≤◌, max, Bool, true, false, cond, ◌&&◌, ◌||◌, List, [], ◌∷◌, map, Option, Some, None, IfSome, IsSomeAnd, refl, sym, ◌∙◌, ap, arith, nat_cmp}
+use Rattle.std.proofs.Common.{◌≡◌, ◌≢◌, ℕ, ◌+◌, ◌<◌, ◌≤◌, max, Bool, true, false, cond, ◌&&◌, ◌||◌, List, [], ◌∷◌, map, Option, Some, None, IsSomeAnd, refl, sym, ◌∙◌, ap, arith, nat_cmp}
 use Rattle.std.specs.Prelude.{◌==◌, nat_lt, nat_le}
 use Rattle.std.specs.List.{filter}
 use Rattle.std.specs.FinMap.Entries.{is_sorted, put, where_key}

@@ -1,7 +1,6 @@
 -- Joining the parts of packets, one after the other.
-use Rattle.std.proofs.Common.{◌≡◌, ℕ, ◌-◌, suc, Bool, append-nil, Option, ◌+◌, ◌*◌, ◌≤◌, List, [], ◌∷◌, ◌++◌, length, Some, Result, Ok, Err, IfOk, option_map, refl, sym, ◌∙◌, ap, subst, arith, append_assoc}
+use Rattle.std.proofs.Common.{◌≡◌, ℕ, ◌-◌, suc, append-nil, ◌+◌, ◌*◌, ◌≤◌, List, [], ◌∷◌, ◌++◌, length, Some, Result, Ok, Err, IfOk, option_map, refl, sym, ◌∙◌, ap, subst, arith, append_assoc}
 use Rattle.std.specs.List.{cons_option}
-use Rattle.std.specs.Option.{option_and_then}
 use Rattle.std.specs.Result.{result_ok}
 use Rattle.std.proofs.lemmas.List.{length-append}
 use Rattle.std.proofs.lemmas.Option.{none-some, same_Some}
@@ -10,20 +9,13 @@ use Rattle.vrx_rtp.specs.Reading.{read}
 use Rattle.vrx_codec.specs.Part.{Part}
 use Rattle.vrx_codec.specs.declared.fault.JoinFault.{JoinFault}
 use Rattle.vrx_codec.specs.declared.join.Join.{Join}
-use Rattle.vrx_codec.specs.declared.part.Start.{Start}
-use Rattle.vrx_codec.specs.declared.run.Place.{Place}
 use Rattle.vrx_codec.specs.Meaning.{Meaning}
 use Rattle.vrx_codec.specs.Joining.{Joining, beginning, end_octets, with_octets, and_then, join_from, Raises}
-use Rattle.vrx_window.specs.Content.{Media, content_of, contents}
-use Rattle.vrx_window.specs.Sound.{SaysItsText, AreSound}
-use Rattle.vrx_window.specs.Window.{at}
-use Rattle.vrx_window.specs.declared.held.Held.{Held}
-use Rattle.vrx_window.specs.declared.held.Held.TheVariants as helds
+use Rattle.vrx_window.specs.Content.{Media}
 use Rattle.vrx_frames.specs.Run.{Packets, Piece}
 use Rattle.vrx_num.specs.OptionChain.{◌>>=◌}
 use Rattle.vrx_core.specs.inside.Joins.{join_of}
 use Rattle.vrx_frames.specs.Parts.{part_of, part_at, parts_from}
-use Rattle.vrx_core.proofs.relation.MapLemmas.{at_map}
 
 -- a condition of an Ok, of its value
 if_ok : {A E : Type 0} (P : A → Type 0) (r : Result A E) (x : A) → r ≡ Ok x → IfOk r P → P x
