@@ -1,6 +1,8 @@
 -- The payload of a maker's parts, and what is added to them.
 use Rattle.std.proofs.Common.{◌≡◌, ℕ, zero, suc, ◌+◌, ◌-◌, ◌/◌, ◌%◌, ◌^◌, ◌<◌, ◌≤◌, Bool, true, false, List, [], ◌∷◌, ◌++◌, All, length, map, replicate, take, drop, bit_xor, Result, Ok, refl, sym, ap, ◌∙◌, subst, arith}
-use Rattle.std.specs.Prelude.{◌==◌, if◌then◌else◌, slice_index, flat_map, IsOkAnd}
+use Rattle.std.specs.Prelude.{◌==◌, if◌then◌else◌, slice_index, flat_map, IsOkAnd, ◌||◌, not, nat_le, nat_lt}
+use Rattle.std.specs.List.{list_all}
+use Rattle.vrx_num.specs.declared.limits.TheConstants.{HALF_SPACE}
 use Rattle.std.proofs.lemmas.Bool.{eq-eqb, ne_eqb, true≢false}
 use Rattle.std.proofs.lemmas.List.{drop-replicate, get_or-drop, get_or-replicate, length-drop, length-map, length-replicate, length-take-le, nil_from_length, take-append-drop, take-replicate}
 use Rattle.std.proofs.lemmas.Nat.{from_be_bytes-to_be_bytes_2, xor_comm}
@@ -9,8 +11,8 @@ use Rattle.vrx_fec.specs.declared.maker.LevelPlan.{LevelPlan}
 use Rattle.vrx_fec.specs.declared.span.Span.{Span}
 use Rattle.vrx_fec.specs.Made.{ArePlanned, levels_of, made, span_masks, total}
 use Rattle.vrx_fec.specs.Making.{IsPlan, blank, blank_level, form_of, Form, head_of, plan_masks, span_in}
-use Rattle.vrx_fec.specs.Mask.{are_nested, is_named, width}
-use Rattle.vrx_fec.specs.Payload.{FitsLevel, IsPayload, Level, Payload, level_octets, first_mask, has_long_masks, is_ahead, masks, octets_of}
+use Rattle.vrx_fec.specs.Mask.{are_nested, is_named, width, offsets}
+use Rattle.vrx_fec.specs.Payload.{FitsLevel, IsPayload, Level, Payload, level_octets, first_mask, has_long_masks, is_ahead, masks, octets_of, distance, protected}
 use Rattle.vrx_fec.specs.Reading.{reading}
 use Rattle.vrx_fec.specs.Parity.{IsParity, IsTrue, Texts, body_of, fields_of, mask_at, named, octet_at, recovery, spans_of, xor_of_fields, xor_of_octets}
 use Rattle.vrx_fec.proofs.SumLemmas.{added, one-named}
@@ -251,3 +253,14 @@ pub true-read : (octets : List ℕ) (own : ℕ) (p : Payload) (texts : Texts) �
     → IsOkAnd (reading octets own) (λ q. IsTrue q texts)
 true-read octets own p texts reads is =
     subst (λ (r : Result Payload FecFault). IsOkAnd r (λ q. IsTrue q texts)) (sym reads) is
+
+pub made-protected : (long : Bool) (base : ℕ) (spans : List Span) (fields fields_new body body_new : List ℕ)
+    → protected (made long base spans fields_new body_new) ≡ protected (made long base spans fields body)
+made-protected long base spans fields fields_new body body_new =
+    ap (λ ms. offsets long (first_mask ms)) (masks-levels_of spans body_new ∙ sym (masks-levels_of spans body))
+
+pub made-ahead : (long : Bool) (base own : ℕ) (spans : List Span) (fields fields_new body body_new : List ℕ)
+    → is_ahead own (made long base spans fields_new body_new) ≡ is_ahead own (made long base spans fields body)
+made-ahead long base own spans fields fields_new body body_new =
+    ap (λ os. nat_le HALF_SPACE (distance own base) || not (list_all (λ i. nat_lt i (distance own base)) os))
+    (made-protected long base spans fields fields_new body body_new)

@@ -56,7 +56,9 @@ impl Model for FecMaker {
 }
 
 impl FecMaker {
-    /// The payload of a plan, to which nothing was added. Only this call takes memory.
+    /// The payload of a plan, to which nothing was added: of one to eight levels, each mask within the one before it,
+    /// and the first with offset 0 in it. `base` is the SN base, and masks have 48 bits if they are `long`, and else
+    /// 16. Only this call takes memory.
     pub fn start(
         alloc: Global,
         base: u16,
@@ -79,12 +81,16 @@ impl FecMaker {
         })
     }
 
-    /// Adds the text of the packet at this offset from SN base.
+    /// Adds the text of the packet at this offset from SN base: the packet from its RTP header on, of 12 to 65,547
+    /// octets.
     pub fn add(&mut self, offset: u8, text: &[u8])
         requires at_least { HEADER ≤ length text.now }
         requires at_most { length text.now ≤ MOST_TEXT }
         ensures adds { (texts : Texts) → IsParity self.old texts → IsParity self.new ((offset, text.now) ∷ texts) }
+        // Its form stays, and with it what it protects, and after which numbers it comes.
         ensures kept { form_of self.new ≡ form_of self.old }
+        ensures protects { protected self.new ≡ protected self.old }
+        ensures ahead { (own : ℕ) → is_ahead own self.new ≡ is_ahead own self.old }
     {
         xor_into(&mut self.fields, &fields_of(text));
         add_to_body(

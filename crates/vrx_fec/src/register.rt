@@ -64,7 +64,8 @@ impl Register {
         })
     }
 
-    /// Adds the text of the packet at this offset from SN base. The payload is the one with which it was started.
+    /// Adds the text of the packet at this offset from SN base: the packet from its RTP header on, of 12 to 65,547
+    /// octets. The payload is the one with which the register was started.
     pub fn add(&mut self, fec: &Fec<'_>, offset: u8, text: &[u8])
         requires at_least { HEADER ≤ length text.now }
         requires at_most { length text.now ≤ MOST_TEXT }
@@ -75,7 +76,8 @@ impl Register {
         add_to_text(&mut self.text, fec, offset, text);
     }
 
-    /// The packet that is missing, at this offset from SN base and of this SSRC, once all others were added.
+    /// The packet that is missing, at this offset from SN base and of this SSRC, once all others were added. It takes
+    /// no memory.
     pub fn finish(self, fec: &Fec<'_>, missing: u8, ssrc: u32) -> Result<Vec<u8>, RecoverFault>
         ensures rebuilds { (texts : Texts) → IsOf self (view fec.now) texts →
             view_rebuilt result ≡ rebuilt (view fec.now) texts missing ssrc }

@@ -2,8 +2,8 @@ use Rattle.std.proofs.Common.{◌≡◌, ◌<◌, ◌∙◌, ℕ, ◌∷◌, bit
 use Rattle.vrx_fec.specs.Made.{total}
 use Rattle.vrx_fec.specs.Making.{form_of}
 use Rattle.vrx_fec.specs.Parity.{IsParity, fields_of, mask_at}
-use Rattle.vrx_fec.specs.Payload.{Payload}
-use Rattle.vrx_fec.proofs.MakerLemmas.{made-form, made-parity, parity-made, parity-more}
+use Rattle.vrx_fec.specs.Payload.{Payload, is_ahead, protected}
+use Rattle.vrx_fec.proofs.MakerLemmas.{made-ahead, made-form, made-protected, made-parity, parity-made, parity-more}
 use Rattle.vrx_fec.proofs.SumLemmas.{added, small-field}
 use Rattle.vrx_fec.proofs.maker.FecMaker.add.Goals as goal
 
@@ -56,3 +56,15 @@ returns-clause-kept c =
     made-form c.self.inside.long c.self.inside.base c.self.inside.spans.items c.self.inside.fields
     c.xor_into.new.target c.self.inside.body.items c.add_to_body.new.body.items c.self.invariant.size (size c)
     ∙ ap form_of c.self.view_is
+
+pub returns-clause-protects : goal.returns-clause-protects
+returns-clause-protects c =
+    made-protected c.self.inside.long c.self.inside.base c.self.inside.spans.items c.self.inside.fields
+    c.xor_into.new.target c.self.inside.body.items c.add_to_body.new.body.items
+    ∙ ap protected c.self.view_is
+
+pub returns-clause-ahead : goal.returns-clause-ahead
+returns-clause-ahead c own =
+    made-ahead c.self.inside.long c.self.inside.base own c.self.inside.spans.items c.self.inside.fields
+    c.xor_into.new.target c.self.inside.body.items c.add_to_body.new.body.items
+    ∙ ap (is_ahead own) c.self.view_is
