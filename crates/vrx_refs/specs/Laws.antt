@@ -15,9 +15,9 @@ is_among q pictures = list_any (λ picture. picture == q) pictures
 abbrev pub IsFirst : (ℕ → Option ℕ) → (tid p q : ℕ) → Type 0
 IsFirst tids tid p q = IsSomeAnd (tids q) (λ t. (t ≤ tid) × ((r : ℕ) → q < r → r < p → tids r ≢ Some t))
 
--- A walk back from picture p came to picture `last`. Each picture on the way is seen. What it gives is the pictures on
--- the way that are the first of their TIDs. It ends where there are as many of them as TIDs up to this one, or where
--- it may stop, and it may stop nowhere before.
+-- A walk back from picture p came to picture `last`. Each picture on the way is seen. What it gives is the pictures
+-- on the way that are the first of their TIDs. It ends where there are as many of them as TIDs up to this one, or
+-- where it may stop, and it may stop nowhere before.
 pub record HasWalked (tids : ℕ → Option ℕ) (stop : ℕ → Bool) (tid p last : ℕ) (found : List ℕ) : Type 0 where
   pub below : last < p
   pub seen : (q : ℕ) → last ≤ q → q < p → is_some (tids q) ≡ true
