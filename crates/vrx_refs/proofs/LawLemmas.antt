@@ -9,7 +9,7 @@ use Rattle.vrx_codec.specs.declared.run.Place.{Place}
 use Rattle.vrx_codec.specs.declared.run.Run.{Run}
 use Rattle.vrx_refs.specs.declared.limits.TheConstants.{INDEXES, REACH}
 use Rattle.vrx_refs.specs.declared.sighting.Sighting.{Sighting}
-use Rattle.vrx_refs.specs.Laws.{AreNear, AreWalked, FollowsReferences, HasWalked, IsFirst, WalksBack, is_among}
+use Rattle.vrx_refs.specs.Laws.{AreNear, AreSeenBetween, AreWalked, FollowsReferences, HasWalked, IsFirst, WalksBack, is_among}
 use Rattle.vrx_refs.specs.References.{are_met, base, base_reference, counts, judge_delta, Judgement, Key, met_with, Needs, pictures, references, seen, Unknown, waits_for, walk, walked, was_met, was_pulled, was_pulled_key}
 
 module _ (tids : ℕ → Option ℕ) (stop : ℕ → Bool) (tid top : ℕ) where
@@ -226,6 +226,12 @@ are_walked told pulled place found high plain is =
     let (last, near, walked) = walks_back (seen told) (was_pulled_key pulled) place.tid REACH place.picture found
     (sym (references-walked told pulled place high plain) ∙ is) in
     (last, walked)
+
+-- nothing on that way is unseen
+pub are_seen_between : AreSeenBetween
+are_seen_between told pulled place found high plain is q r among above below =
+    let (last, walked) = are_walked told pulled place found high plain is in
+    walked.seen r (omega (arith, above, ((walked.firsts q).0 among).0)) below
 
 -- a base that counts is near, and so is what a walk gives
 base_near : (p : ℕ) (o : Option ℕ) (found : List ℕ) → base_reference p o ≡ Some found → (q : ℕ)
