@@ -45,7 +45,8 @@ module _ (finder : Finder) (tid most p : ℕ) (met : List Sighting) (some : 0 < 
           next : List Sighting
           next = met_with tid (p - 1) s.tid met
 
-          case : (b : Bool) → cond b (Some (pictures next)) (walk_on (most - 1) (p - 1) next) ≡ walk_by (cond b Ended On) next
+          case : (b : Bool) → cond b (Some (pictures next)) (walk_on (most - 1) (p - 1) next)
+              ≡ walk_by (cond b Ended On) next
           case true = refl
           case false = refl
 
@@ -57,14 +58,15 @@ module _ (finder : Finder) (tid most p : ℕ) (met : List Sighting) (some : 0 < 
 -- a base was pulled
 base_pulled : (pulled : List Run) (index b : ℕ) → base pulled index ≡ Some b → was_pulled pulled b ≡ true
 base_pulled [] index b is = grind (arith, is)
-base_pulled (run ∷ pulled) index b is = by run.layers (base pulled index) (was_pulled pulled b) is (base_pulled pulled index b) where
-  by : (o : Option Place) (before : Option ℕ) (rest : Bool) → base_by index o before ≡ Some b
-      → (before ≡ Some b → rest ≡ true) → (is_placed_at b o || rest) ≡ true
-  by None before rest is more = more is
-  by (Some place) before rest is more = case ((place.tid == 0) && (place.tl0 == index)) is where
-    case : (c : Bool) → cond c (Some place.picture) before ≡ Some b → ((place.picture == b) || rest) ≡ true
-    case true is = or_left (place.picture == b) rest (eq-eqb place.picture b (same_Some _ _ is))
-    case false is = or_right (place.picture == b) rest (more is)
+base_pulled (run ∷ pulled) index b is = by run.layers (base pulled index) (was_pulled pulled b) is
+    (base_pulled pulled index b) where
+      by : (o : Option Place) (before : Option ℕ) (rest : Bool) → base_by index o before ≡ Some b
+          → (before ≡ Some b → rest ≡ true) → (is_placed_at b o || rest) ≡ true
+      by None before rest is more = more is
+      by (Some place) before rest is more = case ((place.tid == 0) && (place.tl0 == index)) is where
+        case : (c : Bool) → cond c (Some place.picture) before ≡ Some b → ((place.picture == b) || rest) ≡ true
+        case true is = or_left (place.picture == b) rest (eq-eqb place.picture b (same_Some _ _ is))
+        case false is = or_right (place.picture == b) rest (more is)
 
 -- so nothing is waited for, if the base counts
 base_judged : (pulled : List Run) (p : ℕ) (o : Option ℕ) → ((b : ℕ) → o ≡ Some b → was_pulled pulled b ≡ true)
@@ -90,15 +92,19 @@ module _ (finder : Finder) (told : List Sighting) (pulled : List Run) (knows : K
     by (Some t) = refl
 
   key_known : (q t : ℕ) → seen told q ≡ Some t → is_key_at finder q ≡ was_pulled_key pulled q
-  key_known q t is = ap (λ o. option_map_or (λ s. s.key) o false) (knows.sights q ∙ ap (option_map (sight_of pulled q)) is)
+  key_known q t is = ap (λ o. option_map_or (λ s. s.key) o false) (knows.sights q
+      ∙ ap (option_map (sight_of pulled q)) is)
 
   pulled_known : (q : ℕ) → is_some (seen told q) ≡ true → is_pulled_at finder q ≡ was_pulled pulled q
-  pulled_known q there = ap (λ o. option_map_or (λ s. s.pulled) o false) (knows.sights q) ∙ by (seen told q) there where
-    by : (o : Option ℕ) → is_some o ≡ true → option_map_or (λ s. s.pulled) (option_map (sight_of pulled q) o) false ≡ was_pulled pulled q
-    by None there = grind (arith, there)
-    by (Some t) there = refl
+  pulled_known q there = ap (λ o. option_map_or (λ s. s.pulled) o false) (knows.sights q)
+      ∙ by (seen told q) there where
+        by : (o : Option ℕ) → is_some o ≡ true → option_map_or (λ s. s.pulled) (option_map (sight_of pulled q) o) false
+            ≡ was_pulled pulled q
+        by None there = grind (arith, there)
+        by (Some t) there = refl
 
-  walk_known : (place : Place) → walk_at finder place ≡ walk (seen told) (was_pulled_key pulled) place.tid REACH place.picture []
+  walk_known : (place : Place) → walk_at finder place
+      ≡ walk (seen told) (was_pulled_key pulled) place.tid REACH place.picture []
   walk_known place = walk_same (tid_at finder) (seen told) (is_key_at finder) (was_pulled_key pulled) place.tid
       tid_known key_known REACH place.picture []
 
@@ -106,15 +112,18 @@ module _ (finder : Finder) (told : List Sighting) (pulled : List Run) (knows : K
       → walk (seen told) (was_pulled_key pulled) place.tid REACH place.picture [] ≡ o
       → judge_walk finder o ≡ waits_for pulled o
   walk_judged place None is = refl
-  walk_judged place (Some found) is = ap Needs (same_filter (λ q. not (is_pulled_at finder q)) (λ q. not (was_pulled pulled q))
+  walk_judged place (Some found) is = ap Needs (same_filter (λ q. not (is_pulled_at finder q))
+      (λ q. not (was_pulled pulled q))
       (λ q. is_some (seen told q)) (λ q there. ap not (pulled_known q there)) found
       (walk_all (seen told) (was_pulled_key pulled) place.tid (λ q. is_some (seen told q)) (λ q t is. ap is_some is)
       REACH place.picture [] refl found is))
 
-  place_judged : (place : Place) → place.tl0 < INDEXES → judge_place finder place ≡ waits_for pulled (references told pulled place)
+  place_judged : (place : Place) → place.tl0 < INDEXES → judge_place finder place
+      ≡ waits_for pulled (references told pulled place)
   place_judged place small = by (place.tid == 0) place.sync where
     by_base : (index : ℕ) → index < INDEXES
-        → judge_base place.picture (base_at finder index) ≡ waits_for pulled (base_reference place.picture (base pulled index))
+        → judge_base place.picture (base_at finder index)
+        ≡ waits_for pulled (base_reference place.picture (base pulled index))
     by_base index small = ap (judge_base place.picture) (knows.bases index small)
         ∙ base_judged pulled place.picture (base pulled index) (base_pulled pulled index)
 
@@ -125,7 +134,8 @@ module _ (finder : Finder) (told : List Sighting) (pulled : List Run) (knows : K
     by : (low sync : Bool)
         → cond low (judge_base place.picture (base_at finder ((place.tl0 + (INDEXES - 1)) % INDEXES)))
         (cond sync (judge_base place.picture (base_at finder place.tl0)) (judge_walk finder (walk_at finder place)))
-        ≡ waits_for pulled (cond low (base_reference place.picture (base pulled ((place.tl0 + (INDEXES - 1)) % INDEXES)))
+        ≡ waits_for pulled (cond low (base_reference place.picture
+        (base pulled ((place.tl0 + (INDEXES - 1)) % INDEXES)))
         (cond sync (base_reference place.picture (base pulled place.tl0))
         (walk (seen told) (was_pulled_key pulled) place.tid REACH place.picture [])))
     by true sync = by_base ((place.tl0 + (INDEXES - 1)) % INDEXES) (omega arith)
@@ -137,7 +147,8 @@ module _ (finder : Finder) (told : List Sighting) (pulled : List Run) (knows : K
       → judge_by finder passed run ≡ judge told pulled passed run
   knows_judged run passed small = by run.key run.layers small where
     by : (key : Bool) (layers : Option Place) → OnFalse key (has_index layers ≡ true)
-        → cond key Key (judge_layers finder passed run.first layers) ≡ cond key Key (judge_delta told pulled passed run.first layers)
+        → cond key Key (judge_layers finder passed run.first layers)
+        ≡ cond key Key (judge_delta told pulled passed run.first layers)
     by true layers small = refl
     by false None small = ap (λ b. judge_next b passed run.first) knows.pulls
     by false (Some place) small = place_judged place (ltb-true place.tl0 INDEXES small)

@@ -9,7 +9,7 @@ use Rattle.vrx_codec.specs.declared.run.Place.{Place}
 use Rattle.vrx_codec.specs.declared.run.Run.{Run}
 use Rattle.vrx_refs.specs.declared.limits.TheConstants.{INDEXES, REACH}
 use Rattle.vrx_refs.specs.declared.sighting.Sighting.{Sighting}
-use Rattle.vrx_refs.specs.Laws.{AreNear, AreWalked, FollowsReferences, HasWalked, IsFirst, WalksBack, is_among}
+use Rattle.vrx_refs.specs.Laws.{AreNear, AreSeenBetween, AreWalked, FollowsReferences, HasWalked, IsFirst, WalksBack, is_among}
 use Rattle.vrx_refs.specs.References.{are_met, base, base_reference, counts, judge_delta, Judgement, Key, met_with, Needs, pictures, references, seen, Unknown, waits_for, walk, walked, was_met, was_pulled, was_pulled_key}
 
 module _ (tids : ℕ → Option ℕ) (stop : ℕ → Bool) (tid top : ℕ) where
@@ -44,7 +44,8 @@ module _ (tids : ℕ → Option ℕ) (stop : ℕ → Bool) (tid top : ℕ) where
     lower q met are.1,
   )
 
-  appended : (q : ℕ) (met : List Sighting) (s : Sighting) → AreMetFrom q met → IsMetFrom q s → AreMetFrom q (met ++ (s ∷ []))
+  appended : (q : ℕ) (met : List Sighting) (s : Sighting) → AreMetFrom q met → IsMetFrom q s
+      → AreMetFrom q (met ++ (s ∷ []))
   appended q [] s are is = (is, tt)
   appended q (m ∷ met) s are is = (are.0, appended q met s are.1 is)
 
@@ -68,7 +69,8 @@ module _ (tids : ℕ → Option ℕ) (stop : ℕ → Bool) (tid top : ℕ) where
 
     -- a TID that counts is met, whether now or before
     met_now : (next : List Sighting) → ((u : ℕ) → was_met u met ≡ true → was_met u next ≡ true)
-        → (t ≤ tid → was_met t next ≡ true) → (r u : ℕ) → q ≤ r → r < top → tids r ≡ Some u → u ≤ tid → was_met u next ≡ true
+        → (t ≤ tid → was_met t next ≡ true) → (r u : ℕ) → q ≤ r → r < top → tids r ≡ Some u → u ≤ tid → was_met u next
+        ≡ true
     met_now next keeps now r u above below has_u low = elim (cases_lt q r) [
       | inl more ↦ keeps u (has.whole r u more below has_u low)
       | inr less ↦
@@ -106,12 +108,14 @@ module _ (tids : ℕ → Option ℕ) (stop : ℕ → Bool) (tid top : ℕ) where
       }
 
   -- the pictures met are those that are the first of their TIDs
-  first_of_met : (p : ℕ) (s : Sighting) (x : ℕ) → IsMetFrom p s → s.picture ≡ x → (p ≤ x) × (x < top) × IsFirst tids tid top x
+  first_of_met : (p : ℕ) (s : Sighting) (x : ℕ) → IsMetFrom p s → s.picture ≡ x → (p ≤ x) × (x < top)
+      × IsFirst tids tid top x
   first_of_met p s x is same = (
     omega (arith, is.above, same),
     omega (arith, is.under, same),
     subst (λ y. IsFirst tids tid top y) same
-        (subst (λ o. IsSomeAnd o (λ t. (t ≤ tid) × ((r : ℕ) → s.picture < r → r < top → tids r ≢ Some t))) (sym is.has)
+        (subst (λ o. IsSomeAnd o (λ t. (t ≤ tid) × ((r : ℕ) → s.picture < r → r < top
+        → tids r ≢ Some t))) (sym is.has)
         (is.low, is.first)),
   )
 
@@ -133,7 +137,8 @@ module _ (tids : ℕ → Option ℕ) (stop : ℕ → Bool) (tid top : ℕ) where
           | inr (inl below) ↦ elim (are.0.first x below under (has ∙ ap Some (sym same))) [ ]
           | inr (inr above) ↦ elim (first s.picture above are.0.under (are.0.has ∙ ap Some same)) [ ]
         ]
-    | inr there ↦ or_right (s.picture == x) (is_among x (pictures met)) (first_among p met x t are.1 there above under has first)
+    | inr there ↦ or_right (s.picture == x) (is_among x (pictures met))
+        (first_among p met x t are.1 there above under has first)
   ]
 
   -- a walk that ends here
@@ -155,20 +160,24 @@ module _ (tids : ℕ → Option ℕ) (stop : ℕ → Bool) (tid top : ℕ) where
       by : (o : Option ℕ) → tids x ≡ o → IsSomeAnd o (λ t. (t ≤ tid) × ((r : ℕ) → x < r → r < top → tids r ≢ Some t))
           → is_among x (pictures met) ≡ true
       by None has_no is = elim is [ ]
-      by (Some t) has_t is = first_among q met x t has.sound (has.whole x t above below has_t is.0) above below has_t is.1
+      by (Some t) has_t is = first_among q met x t has.sound
+          (has.whole x t above below has_t is.0) above below has_t is.1
 
   -- a walk that goes on
   walk_from : (most p : ℕ) (met : List Sighting) (found : List ℕ) → p ≤ top → HasMet p met
       → ((r : ℕ) → p ≤ r → r < top → stop r ≡ false)
-      → walk tids stop tid most p met ≡ Some found → (last : ℕ) × (p ≤ last + most) × HasWalked tids stop tid top last found
+      → walk tids stop tid most p met ≡ Some found → (last : ℕ) × (p ≤ last + most)
+      × HasWalked tids stop tid top last found
   walk_from zero p met found low has on is = grind (arith, is)
   walk_from (suc most) zero met found low has on is = grind (arith, is)
   walk_from (suc most) (suc q) met found low has on is =
-      by q most met found low has on (λ next has_next on_next is. walk_from most q next found (omega (arith, low)) has_next on_next is)
+      by q most met found low has on (λ next has_next on_next is. walk_from most q next found
+      (omega (arith, low)) has_next on_next is)
       (tids q) refl is where
         by : (q most : ℕ) (met : List Sighting) (found : List ℕ) → suc q ≤ top → HasMet (suc q) met
             → ((r : ℕ) → suc q ≤ r → r < top → stop r ≡ false)
-            → ((next : List Sighting) → HasMet q next → ((r : ℕ) → q ≤ r → r < top → stop r ≡ false) → walk tids stop tid most q next ≡ Some found
+            → ((next : List Sighting) → HasMet q next → ((r : ℕ) → q ≤ r → r < top → stop r ≡ false)
+            → walk tids stop tid most q next ≡ Some found
             → (last : ℕ) × (q ≤ last + most) × HasWalked tids stop tid top last found)
             → (o : Option ℕ) → tids q ≡ o → walked stop tid q (walk tids stop tid most q) met o ≡ Some found
             → (last : ℕ) × (suc q ≤ last + suc most) × HasWalked tids stop tid top last found
@@ -186,7 +195,8 @@ module _ (tids : ℕ → Option ℕ) (stop : ℕ → Bool) (tid top : ℕ) where
             | inr same ↦ ap stop (omega (arith, above, same)) ∙ here
           ]
 
-          case : (b : Bool) → (are_met tid next || stop q) ≡ b → cond b (Some (pictures next)) (walk tids stop tid most q next) ≡ Some found
+          case : (b : Bool) → (are_met tid next || stop q) ≡ b
+              → cond b (Some (pictures next)) (walk tids stop tid most q next) ≡ Some found
               → (last : ℕ) × (suc q ≤ last + suc most) × HasWalked tids stop tid top last found
           case true stops given = (
             q,
@@ -194,7 +204,8 @@ module _ (tids : ℕ → Option ℕ) (stop : ℕ → Bool) (tid top : ℕ) where
             subst (λ xs. HasWalked tids stop tid top q xs) (same_Some _ _ given)
                 (walk_ended q next (omega (arith, low)) has_it on stops),
           )
-          case false goes given = let (last, near, walked) = more next has_it (on_it (or_parts (are_met tid next) (stop q) goes).1) given in (last, omega (arith, near), walked)
+          case false goes given = let (last, near, walked) = more next has_it
+              (on_it (or_parts (are_met tid next) (stop q) goes).1) given in (last, omega (arith, near), walked)
 
 -- what a walk gives
 pub walks_back : WalksBack
@@ -215,6 +226,12 @@ are_walked told pulled place found high plain is =
     let (last, near, walked) = walks_back (seen told) (was_pulled_key pulled) place.tid REACH place.picture found
     (sym (references-walked told pulled place high plain) ∙ is) in
     (last, walked)
+
+-- nothing on that way is unseen
+pub are_seen_between : AreSeenBetween
+are_seen_between told pulled place found high plain is q r among above below =
+    let (last, walked) = are_walked told pulled place found high plain is in
+    walked.seen r (omega (arith, above, ((walked.firsts q).0 among).0)) below
 
 -- a base that counts is near, and so is what a walk gives
 base_near : (p : ℕ) (o : Option ℕ) (found : List ℕ) → base_reference p o ≡ Some found → (q : ℕ)
@@ -244,12 +261,14 @@ are_near told pulled place found is q among = by (place.tid == 0) place.sync is 
   by true sync is = base_near place.picture _ found is q among
   by false true is = base_near place.picture _ found is q among
   by false false is =
-      let (last, near, walked) = walks_back (seen told) (was_pulled_key pulled) place.tid REACH place.picture found is in
+      let (last, near, walked) = walks_back (seen told)
+      (was_pulled_key pulled) place.tid REACH place.picture found is in
       let place_of = (walked.firsts q).0 among in
       (place_of.1, omega (arith, near, place_of.0))
 
 -- if nothing is left of those that weren't pulled, all were pulled
-all_pulled : (ok : ℕ → Bool) (ns : List ℕ) → filter (λ n. not (ok n)) ns ≡ [] → (q : ℕ) → is_among q ns ≡ true → ok q ≡ true
+all_pulled : (ok : ℕ → Bool) (ns : List ℕ) → filter (λ n. not (ok n)) ns ≡ [] → (q : ℕ) → is_among q ns ≡ true → ok q
+    ≡ true
 all_pulled ok [] none q among = grind (arith, among)
 all_pulled ok (n ∷ ns) none q among = by (ok n) refl none (λ rest there. all_pulled ok ns rest q there) where
   by : (b : Bool) → ok n ≡ b → cond (not b) (n ∷ filter (λ n. not (ok n)) ns) (filter (λ n. not (ok n)) ns) ≡ []

@@ -23,7 +23,8 @@ module _ (tids : ℕ → Option ℕ) (stop : ℕ → Bool) (tid : ℕ) where
       let q_is : suc q - 1 ≡ q = omega arith in
       λ i. walked stop tid (sym q_is i) (walk tids stop tid (sym most_is i) (sym q_is i)) met (tids (sym q_is i))
 
-walked_same : (stop stop' : ℕ → Bool) (tid q : ℕ) (on on' : List Sighting → Option (List ℕ)) (met : List Sighting) (o : Option ℕ)
+walked_same : (stop stop' : ℕ → Bool) (tid q : ℕ) (on on' : List Sighting
+    → Option (List ℕ)) (met : List Sighting) (o : Option ℕ)
     → ((t : ℕ) → o ≡ Some t → stop q ≡ stop' q) → ((met : List Sighting) → on met ≡ on' met)
     → walked stop tid q on met o ≡ walked stop' tid q on' met o
 walked_same stop stop' tid q on on' met None stops same = refl
@@ -66,12 +67,14 @@ module _ (tids : ℕ → Option ℕ) (stop : ℕ → Bool) (tid : ℕ) (ok : ℕ
       (λ next more. walk_all most q next more found) (tids q) refl is where
         all_walked : (q : ℕ) (met : List Sighting) → list_all ok (pictures met) ≡ true → (found : List ℕ)
             → (on : List Sighting → Option (List ℕ))
-            → ((next : List Sighting) → list_all ok (pictures next) ≡ true → on next ≡ Some found → list_all ok found ≡ true)
+            → ((next : List Sighting) → list_all ok (pictures next) ≡ true → on next ≡ Some found → list_all ok found
+            ≡ true)
             → (o : Option ℕ) → tids q ≡ o → walked stop tid q on met o ≡ Some found → list_all ok found ≡ true
         all_walked q met all found on more None has is = grind (arith, is)
         all_walked q met all found on more (Some t) has is =
             by (are_met tid (met_with tid q t met) || stop q) is where
-              by : (b : Bool) → cond b (Some (pictures (met_with tid q t met))) (on (met_with tid q t met)) ≡ Some found
+              by : (b : Bool) → cond b (Some (pictures (met_with tid q t met))) (on (met_with tid q t met))
+                  ≡ Some found
                   → list_all ok found ≡ true
               by true is = subst (λ xs. list_all ok xs ≡ true) (same_Some _ _ is) (all_met q t met has all)
               by false is = more (met_with tid q t met) (all_met q t met has all) is

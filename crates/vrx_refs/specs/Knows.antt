@@ -13,8 +13,8 @@ abbrev pub sight_of : List Run → (q tid : ℕ) → Sight
 sight_of pulled q tid = record { picture = q; tid = tid; pulled = was_pulled pulled q; key = was_pulled_key pulled q }
 
 -- The finder remembers the newest picture; of each picture that is seen its TID, and whether it was pulled, and so as
--- a keyframe; the base of each index; and whether a run was pulled. No slot speaks of a picture beyond the newest, and
--- each picture that was pulled was carried by a packet.
+-- a keyframe; the base of each index; and whether a run was pulled. No slot speaks of a picture beyond the newest,
+-- and each picture that was pulled was carried by a packet.
 pub record Knows (finder : Finder) (told : List Sighting) (pulled : List Run) : Type 0 where
   pub newest : finder.newest ≡ newest_of told
   pub sights : (q : ℕ) → sight_at finder q ≡ option_map (sight_of pulled q) (seen told q)

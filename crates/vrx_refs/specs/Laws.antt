@@ -15,9 +15,9 @@ is_among q pictures = list_any (λ picture. picture == q) pictures
 abbrev pub IsFirst : (ℕ → Option ℕ) → (tid p q : ℕ) → Type 0
 IsFirst tids tid p q = IsSomeAnd (tids q) (λ t. (t ≤ tid) × ((r : ℕ) → q < r → r < p → tids r ≢ Some t))
 
--- A walk back from picture p came to picture `last`. Each picture on the way is seen. What it gives is the pictures on
--- the way that are the first of their TIDs. It ends where there are as many of them as TIDs up to this one, or where
--- it may stop, and it may stop nowhere before.
+-- A walk back from picture p came to picture `last`. Each picture on the way is seen. What it gives is the pictures
+-- on the way that are the first of their TIDs. It ends where there are as many of them as TIDs up to this one, or
+-- where walks stop, which they do nowhere on the way before.
 pub record HasWalked (tids : ℕ → Option ℕ) (stop : ℕ → Bool) (tid p last : ℕ) (found : List ℕ) : Type 0 where
   pub below : last < p
   pub seen : (q : ℕ) → last ≤ q → q < p → is_some (tids q) ≡ true
@@ -25,7 +25,7 @@ pub record HasWalked (tids : ℕ → Option ℕ) (stop : ℕ → Bool) (tid p la
   pub goes_on : (q : ℕ) → last < q → q < p → stop q ≡ false
   pub ends : (length found ≡ tid + 1) ⊎ (stop last ≡ true)
 
--- what a walk gives, whatever the TIDs of pictures are, and wherever it may stop: it comes at most so many pictures
+-- what a walk gives, whatever the TIDs of pictures are, and wherever walks stop: it goes at most so many pictures
 -- back
 abbrev pub WalksBack : Type 0
 WalksBack = (tids : ℕ → Option ℕ) (stop : ℕ → Bool) (tid most p : ℕ) (found : List ℕ) →
@@ -43,6 +43,12 @@ abbrev pub AreNear : Type 0
 AreNear = (told : List Sighting) (pulled : List Run) (place : Place) (found : List ℕ) →
     references told pulled place ≡ Some found →
     (q : ℕ) → is_among q found ≡ true → (q < place.picture) × (place.picture ≤ q + REACH)
+
+-- each picture between a frame that has neither TID 0 nor Y and one that it refers to is seen
+abbrev pub AreSeenBetween : Type 0
+AreSeenBetween = (told : List Sighting) (pulled : List Run) (place : Place) (found : List ℕ) → place.tid ≢ 0 →
+    place.sync ≡ false → references told pulled place ≡ Some found →
+    (q r : ℕ) → is_among q found ≡ true → q ≤ r → r < place.picture → is_some (seen told r) ≡ true
 
 -- if a frame with layers waits for nothing, it is known to what it refers, and all that was pulled
 abbrev pub FollowsReferences : Type 0

@@ -69,7 +69,8 @@ was_met tid met = list_any (λ s. s.tid == tid) met
 
 -- what was met once picture q of TID t is, on a walk for a frame of this TID: the first of each TID up to its own
 abbrev pub met_with : (tid q t : ℕ) → List Sighting → List Sighting
-met_with tid q t met = if nat_le t tid && not (was_met t met) then met ++ (record { picture = q; tid = t } ∷ []) else met
+met_with tid q t met =
+    if nat_le t tid && not (was_met t met) then met ++ (record { picture = q; tid = t } ∷ []) else met
 
 -- all TIDs from 0 to this one were met
 abbrev pub are_met : ℕ → List Sighting → Bool
@@ -79,32 +80,33 @@ are_met tid met = length met == tid + 1
 abbrev pub pictures : List Sighting → List ℕ
 pictures met = map (λ s. s.picture) met
 
--- where a walk comes that stands at picture q, of a TID if it is seen, and may go on: nowhere if the picture isn't
--- seen; to an end if all TIDs were met, or it may stop at this picture; and else on
-abbrev pub walked : (ℕ → Bool) → (tid q : ℕ) → (List Sighting → Option (List ℕ)) → List Sighting → Option ℕ → Option (List ℕ)
+-- what a walk gives that comes to picture q, with the TID of q if it is seen: nothing if it isn't; what was met, if
+-- that is all TIDs, or if walks stop at this picture; and else what it gives as it goes on
+abbrev pub walked : (ℕ → Bool) → (tid q : ℕ) → (List Sighting → Option (List ℕ)) → List Sighting → Option ℕ
+    → Option (List ℕ)
 walked stop tid q on met None = None
 walked stop tid q on met (Some t) = let next : List Sighting = met_with tid q t met in
     if are_met tid next || stop q then Some (pictures next) else on next
 
 -- the pictures met on a walk back from a frame of this TID over the pictures below p, at most so many of them, if it
--- comes to an end
+-- comes to an end: of each picture its TID, if it is seen, and whether walks stop at it
 abbrev pub walk : (ℕ → Option ℕ) → (ℕ → Bool) → (tid most p : ℕ) → List Sighting → Option (List ℕ)
 walk tids stop tid zero p met = None
 walk tids stop tid (suc most) zero met = None
 walk tids stop tid (suc most) (suc q) met = walked stop tid q (walk tids stop tid most q) met (tids q)
 
--- The pictures that a frame with layers refers to, if they are known. A frame of TID 0 refers to the base of the index
--- before its own, and one that depends on its base only (Y is 1) to the base of its own index. Any other one refers to
--- the picture that is met first of each TID up to its own, on a walk back over pictures that are seen. The walk goes
--- 255 pictures back at most, and may stop at a picture that was pulled as a keyframe.
+-- The pictures that a frame with layers refers to, if they are known. A frame of TID 0 refers to the base of the
+-- index before its own, and one that depends on its base only (Y is 1) to the base of its own index. Any other one
+-- refers to the picture that is met first of each TID up to its own, on a walk back over pictures that are seen. The
+-- walk goes 255 pictures back at most, and stops at a picture that was pulled as a keyframe.
 abbrev pub references : List Sighting → List Run → Place → Option (List ℕ)
 references told pulled place =
     if place.tid == 0 then base_reference place.picture (base pulled ((place.tl0 + (INDEXES - 1)) % INDEXES))
     else if place.sync then base_reference place.picture (base pulled place.tl0)
     else walk (seen told) (was_pulled_key pulled) place.tid REACH place.picture []
 
--- how far a run is from being decoded: it refers to nothing; it waits for these pictures, to which it refers and which
--- weren't pulled; or it isn't known to what it refers
+-- how far a run is from being decoded: it refers to nothing; it waits for these pictures, to which it refers and
+-- which weren't pulled; or it isn't known to what it refers
 pub data Judgement : Type 0 where
   Key : Judgement
   Needs : (pictures : List ℕ) → Judgement

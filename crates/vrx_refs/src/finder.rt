@@ -78,8 +78,8 @@ impl Finder {
         self.pull(run);
     }
 
-    /// How far a run is from being decoded, with the numbers up to `passed` passed. If it has layers, its TID is below
-    /// 4.
+    /// How far a run is from being decoded, with the numbers up to `passed` passed. If it has layers, its TID is
+    /// below 4.
     pub fn judge(&self, run: &Run, passed: Option<u64>) -> Judged
         requires layer { has_layer run.now.layers ≡ true }
         ensures judged { (told : List Sighting) (pulled : List Run) → Knows self.now told pulled →

@@ -1,6 +1,6 @@
 //! What holds of the definitions themselves.
 
-ghost use Rattle.vrx_refs.specs.Laws.{AreNear, AreWalked, FollowsReferences, WalksBack};
+ghost use Rattle.vrx_refs.specs.Laws.{AreNear, AreSeenBetween, AreWalked, FollowsReferences, WalksBack};
 
 /// The laws of the frames that a frame refers to (RFC 7741 4.2). The function does nothing.
 ///
@@ -8,6 +8,7 @@ ghost use Rattle.vrx_refs.specs.Laws.{AreNear, AreWalked, FollowsReferences, Wal
 /// each TID up to its own on the way back to some picture, and each picture on that way is seen.
 pub fn references_are()
     ensures near { AreNear }
+    ensures seen { AreSeenBetween }
     ensures walked { AreWalked }
     ensures walks { WalksBack }
 {}

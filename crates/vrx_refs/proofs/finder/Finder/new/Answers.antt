@@ -1,4 +1,4 @@
-use Rattle.vrx_refs.proofs.KnowsLemmas.{knows_new}
+use Rattle.vrx_refs.proofs.SeenLemmas.{knows_new}
 use Rattle.vrx_refs.proofs.finder.Finder.new.Goals as goal
 
 pub returns : goal.returns

@@ -1,6 +1,6 @@
 use Rattle.std.proofs.Common.{sym, subst, ◌∷◌}
 use Rattle.vrx_refs.specs.Knows.{Knows}
-use Rattle.vrx_refs.proofs.KnowsLemmas.{knows_pulled}
+use Rattle.vrx_refs.proofs.PulledLemmas.{knows_pulled}
 use Rattle.vrx_refs.proofs.finder.Finder.pulled.Goals as goal
 
 pub returns : goal.returns
