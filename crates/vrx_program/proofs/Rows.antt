@@ -1,5 +1,5 @@
 -- Whole replays and an inspection, worked by hand: the definitions on captures.
-use Rattle.std.proofs.Common.{◌≡◌, ◌<◌, inl, All, ℕ, zero, suc, List, [], ◌∷◌, ◌++◌, codes, refl, true, false, None, arith, inr}
+use Rattle.std.proofs.Common.{◌≡◌, ◌<◌, All, ℕ, zero, suc, List, [], ◌∷◌, ◌++◌, codes, ap, refl, sym, true, false, None, arith, inr}
 use Rattle.std.specs.Prelude.{nat_lt}
 use Rattle.std.specs.List.{AllByRecursion, list_all}
 use Rattle.std.proofs.lemmas.Bool.{and_parts, ltb-true}
@@ -10,8 +10,9 @@ use Rattle.vrx_core.specs.machine.Machine.{snapshots, reply}
 use Rattle.vrx_core.specs.honest.Sender.{SentFrame, Media, Sender}
 use Rattle.vrx_codec.specs.declared.part.Start.TheVariants.{Yes, No}
 use Rattle.vrx_core.specs.honest.Chain.{InChain}
-use Rattle.vrx_core.specs.honest.HonestSender.{CarriedPart, IsPart, Travels, HonestSender}
+use Rattle.vrx_core.specs.honest.HonestSender.{CarriedPart, IsMedia, IsPart, Travels, HonestSender}
 use Rattle.vrx_core.specs.honest.HonestNetwork.{FromSender, Elsewhere, packets_taken}
+use Rattle.vrx_core.specs.honest.WireForm.{Plain, IsWireForm}
 use Rattle.vrx_core.specs.declared.settings.Settings.{Settings}
 use Rattle.vrx_text.specs.Transcript.{line_feed}
 use Rattle.vrx_text.proofs.OnLiterals.{text_on_literals}
@@ -250,11 +251,37 @@ sender-honest = record {
   apart = elim [ zero ↦ tt | suc f ↦ tt ];
 }
 
+-- a packet as it was sent is one of its forms
+plain_form : (number part : ℕ) (carried : CarriedPart) → IsMedia settings vp8 number carried →
+    IsWireForm settings number (Media 0 part carried.text) carried.text
+plain_form number part carried m = (
+  carried.packet,
+  m.reads,
+  record {
+    how = Plain;
+    wire = carried.packet;
+    travels = refl;
+    carries = record {
+      size = m.size;
+      below = m.below;
+      packet = carried.packet;
+      reads = m.reads;
+      unpadded = ap (λ n. record carried.packet { padding = n }) (sym m.no_padding);
+    };
+  },
+)
+
 pub parts-honest : IsHonestCapture parts_capture sender (FromSender 2 ∷ FromSender 0 ∷ FromSender 1 ∷ Elsewhere ∷ [])
 unfolding text_on_literals settings_of snapshots packets_taken
 parts-honest = (
   sender-honest,
-  ((inl refl, tt), ((inl refl, (omega arith, omega arith)), ((inl refl, (omega arith, omega arith)), (tt, tt)))),
+  (
+    (plain_form 3 2 third_part third_is.media, tt),
+    (
+      (plain_form 1 0 first_part first_is.media, (omega arith, omega arith)),
+      ((plain_form 2 1 second_part second_is.media, (omega arith, omega arith)), (tt, tt)),
+    ),
+  ),
 )
 
 -- an inspection: a datagram, a tick, a pull and a bad line under settings that a replay doesn't take
