@@ -249,7 +249,7 @@ told 1 "$usage" $capture /dev/null Inspect
 told 1 "$usage" $capture /dev/null $'replay\xff'
 told 2 "$bad" examples/bad_lines/kind.capture /dev/null replay
 told 2 "$bad" examples/bad_lines/kind.capture /dev/null inspect
-told 0 "" examples/bad_lines/later_red.capture /dev/null inspect
+told 0 "" examples/bad_lines/later.capture /dev/null inspect
 told 2 "$bad" examples/bad_line_after_a_tick/capture /dev/null replay
 told 3 "vrx: a read failed" examples /dev/null replay
 told 3 "vrx: a read failed" examples /dev/null inspect
