@@ -3,6 +3,8 @@
 mod ContentLemmas
 mod EntryLemmas
 mod FateLemmas
+mod FecLemmas
+mod MarkLemmas
 mod MeansLemmas
 mod NumberLemmas
 mod RingLemmas

@@ -1,8 +1,9 @@
 -- Rows of the definitions, which compute.
-use Rattle.std.proofs.Common.{◌≡◌, true, false, [], ◌∷◌, Some, refl}
+use Rattle.std.proofs.Common.{◌≡◌, ℕ, true, false, List, [], ◌∷◌, Some, None, refl}
 use Rattle.vrx_window.specs.declared.held.Held.{Held}
-use Rattle.vrx_window.specs.declared.held.Held.TheVariants.{Empty}
+use Rattle.vrx_window.specs.declared.held.Held.TheVariants.{Empty, Fec}
 use Rattle.vrx_window.specs.declared.placing.Placing.TheVariants.{TooOld, Dead, Repeat, Fresh}
+use Rattle.vrx_window.specs.Content.{next_fec}
 use Rattle.vrx_window.specs.Window.{Contents, nothing, would_of, after_placing, after_giving_up}
 
 -- two packets are held, and one number was given up
@@ -75,3 +76,16 @@ in_order : after_giving_up 69000 (after_giving_up 69999 window) ≡ record {
   dead = 67954 ∷ 69000 ∷ 69999 ∷ [];
 }
 in_order = refl
+
+-- the next FEC packet from a number on: that number's own, or a later one
+abbrev with_fec : List (ℕ × Held)
+with_fec = (67953, Fec (1 ∷ [])) ∷ (69000, Empty false) ∷ (70000, Fec (2 ∷ [])) ∷ []
+
+its_own : next_fec 67953 with_fec ≡ Some 67953
+its_own = refl
+
+a_later : next_fec 67954 with_fec ≡ Some 70000
+a_later = refl
+
+no_more : next_fec 70001 with_fec ≡ None
+no_more = refl

@@ -1,5 +1,7 @@
 -- What a held packet is, whatever else is kept beside it.
-use Rattle.std.specs.Prelude.{ℕ, List, map}
+use Rattle.std.specs.Prelude.{ℕ, Bool, true, false, ◌&&◌, nat_le, List, map, Option, Some, None}
+use Rattle.std.specs.List.{find}
+use Rattle.std.specs.Option.{option_map}
 use Rattle.vrx_window.specs.declared.held.Held.{Held}
 use Rattle.vrx_window.specs.declared.held.Held.TheVariants as helds
 use Rattle.vrx_window.specs.Window.{Contents}
@@ -28,3 +30,19 @@ contents_of window = record {
   packets = contents window.packets;
   dead = window.dead;
 }
+
+-- what is held is a FEC packet
+abbrev pub is_fec : Held → Bool
+is_fec (helds.Media text marker ts start key layers) = false
+is_fec (helds.Empty marker) = false
+is_fec (helds.Fec payload) = true
+
+-- a FEC packet is held, if anything is
+abbrev pub is_fec_held : Option Held → Bool
+is_fec_held None = false
+is_fec_held (Some held) = is_fec held
+
+-- the least number from one on under which a FEC packet is held, of a map from numbers in their order
+abbrev pub next_fec : ℕ → List (ℕ × Held) → Option ℕ
+next_fec from packets =
+    option_map (λ entry. entry.0) (find (λ entry. nat_le from entry.0 && is_fec entry.1) packets)

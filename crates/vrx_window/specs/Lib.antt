@@ -1,6 +1,7 @@
 pub mod Content
 pub mod Fates
 pub mod IsWindow
+pub mod Marks
 pub mod Numbered
 pub mod Ring
 pub mod Sound

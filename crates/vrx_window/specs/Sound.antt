@@ -1,10 +1,11 @@
 -- A held packet says what its text says.
-use Rattle.std.specs.Prelude.{◌≡◌, ◌≢◌, ℕ, ◌%◌, ◌≤◌, Bool, List, [], length, Option, Some, None, Ok}
+use Rattle.std.specs.Prelude.{◌≡◌, ◌≢◌, ℕ, ◌%◌, ◌≤◌, Bool, List, [], length, Option, Some, None, IfSome, Ok}
 use Rattle.std.specs.Option.{option_map}
 use Rattle.vrx_num.specs.declared.limits.TheConstants.{MOST_OCTETS}
 use Rattle.vrx_rtp.specs.Packet.{Packet}
 use Rattle.vrx_rtp.specs.Reading.{read}
 use Rattle.vrx_codec.specs.Part.{Part}
+use Rattle.vrx_codec.specs.Joining.{FitsLayers}
 use Rattle.vrx_codec.specs.Meaning.{Meaning}
 use Rattle.vrx_codec.specs.declared.part.Layers.{Layers}
 use Rattle.vrx_codec.specs.declared.part.Start.{Start}
@@ -18,7 +19,7 @@ abbrev pub on_wire : Place → Layers
 on_wire place = record { picture = place.picture % 32768; tl0 = place.tl0; tid = place.tid; sync = place.sync }
 
 -- What stands beside a media packet's text is what the text says, as the codec reads it. The text isn't too long, it
--- has no padding, and its payload isn't empty.
+-- has no padding, and its payload isn't empty. Its layers, if it has some, have their bits.
 pub record SaysItsText (codec : Meaning) (text : List ℕ) (marker : Bool) (ts : ℕ) (start : Start) (key : Bool)
     (layers : Option Place) : Type 0 where
   pub packet : Packet
@@ -33,6 +34,7 @@ pub record SaysItsText (codec : Meaning) (text : List ℕ) (marker : Bool) (ts :
   pub start_is : part.start ≡ start
   pub key_is : part.key ≡ key
   pub layers_are : part.layers ≡ option_map on_wire layers
+  pub layers_fit : IfSome part.layers FitsLayers
 
 -- a held packet is sound for a codec: if it is a media packet, it says what its text says
 abbrev pub IsSound : Meaning → Held → Type 0

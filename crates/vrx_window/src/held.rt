@@ -1,5 +1,9 @@
 //! What the window holds under a number.
 
+ghost use Rattle.std.specs.Prelude.{◌≡◌, Some};
+ghost use Rattle.vrx_window.specs.Content.{is_fec};
+ghost use Rattle.vrx_window.specs.Sound.{place_of};
+
 use bytes::Bytes;
 use vrx_codec::{Place, Start};
 
@@ -31,4 +35,28 @@ pub enum Held {
         /// Its payload: the FEC header, and the levels after it (RFC 5109 7.3 and 7.4).
         text: Bytes,
     },
+}
+
+impl Held {
+    /// Its place among temporal layers, if it is a media packet that says it (RFC 7741 4.2).
+    pub fn place(&self) -> Option<Place>
+        ensures place { result ≡ place_of (Some self.now) }
+    {
+        match self {
+            Held::Media { layers, .. } => *layers,
+            Held::Empty { .. } => None,
+            Held::Fec { .. } => None,
+        }
+    }
+
+    /// Whether it is a packet of forward error correction (RFC 5109).
+    pub fn is_fec(&self) -> bool
+        ensures fec { result ≡ is_fec self.now }
+    {
+        match self {
+            Held::Fec { .. } => true,
+            Held::Media { .. } => false,
+            Held::Empty { .. } => false,
+        }
+    }
 }

@@ -10,6 +10,7 @@
 mod fate;
 mod held;
 mod laws;
+mod marks;
 mod placing;
 mod ring;
 mod slot;

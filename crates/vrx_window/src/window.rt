@@ -2,17 +2,20 @@
 
 ghost use Rattle.std.specs.Prelude.{◌≡◌, true, IfOk};
 ghost use Rattle.std.specs.Option.{option_copied};
+ghost use Rattle.vrx_window.specs.Content.{is_fec_held, next_fec};
 ghost use Rattle.vrx_window.specs.IsWindow.{IsWindow};
 ghost use Rattle.vrx_window.specs.Window.{at, after_giving_up, is_inside, nothing, after_placing, would_of};
 ghost use Rattle.vrx_window.specs.declared.placing.Placing.TheVariants.{Fresh};
 
 use crate::fate::Fate;
 use crate::held::Held;
+use crate::marks::{WORDS, mark, next_marked};
 use crate::placing::Placing;
 use crate::ring::{Ring, is_too_old};
 use std::alloc::Global;
 use std::marker::Model;
 use vrx_num::NoMemory;
+use vrx_num::limits::WINDOW;
 
 /// The packets held under the last 2,048 numbers up to the greatest one placed, and the numbers given up there.
 ///
@@ -23,6 +26,7 @@ use vrx_num::NoMemory;
 pub struct Window {
     first: Option<u64>,
     ring: Ring<Fate>,
+    marks: [u64; WORDS],
 }
 
 impl Model for Window {
@@ -32,11 +36,11 @@ impl Model for Window {
     ghost Value = { Contents Held };
 
     ghost use Rattle.vrx_window.specs.Fates.{window_of};
-    ghost use Rattle.vrx_window.specs.Numbered.{IsNumbered};
+    ghost use Rattle.vrx_window.specs.Marks.{IsMarked};
 
     ghost view = { λ a. window_of a.first a.ring };
 
-    ghost invariant = { λ a. IsNumbered a.ring };
+    ghost invariant = { λ a. IsMarked a.ring a.marks };
 }
 
 impl Window {
@@ -45,7 +49,11 @@ impl Window {
         ensures nothing { IfOk result (λ window. window ≡ nothing) }
     {
         let ring = Ring::new(alloc)?;
-        Ok(Window { first: None, ring })
+        Ok(Window {
+            first: None,
+            ring,
+            marks: [0; WORDS],
+        })
     }
 
     /// The greatest number placed. Its contract also says what always holds of a window.
@@ -74,6 +82,35 @@ impl Window {
         }
     }
 
+    /// The least number from one on under which a FEC packet is held.
+    pub fn next_fec(&self, from: u64) -> Option<u64>
+        ensures next { result ≡ next_fec from self.now.packets }
+    {
+        let newest = self.newest()?;
+        let mut n = from.max(newest.saturating_sub(WINDOW - 1));
+        while n <= newest {
+            n = next_marked(&self.marks, n, newest);
+            if self.is_fec(n) {
+                return Some(n);
+            }
+            if n == newest {
+                return None;
+            }
+            n += 1;
+        }
+        None
+    }
+
+    /// Whether a FEC packet is held under a number.
+    fn is_fec(&self, n: u64) -> bool
+        ensures { result ≡ is_fec_held (at n self.now.packets) }
+    {
+        match self.held(n) {
+            Some(held) => held.is_fec(),
+            None => false,
+        }
+    }
+
     /// Whether a packet can be placed under a number, and if not, why.
     pub fn would(&self, n: u64) -> Placing
         ensures would { result ≡ would_of self.now n }
@@ -94,7 +131,9 @@ impl Window {
         requires fresh { would_of self.old n ≡ Fresh }
         ensures placed { self.new ≡ after_placing n held self.old }
     {
+        let marked = held.is_fec();
         self.ring.place(n, Fate::Taken(held));
+        mark(&mut self.marks, n, marked);
         self.first = Some(self.first.unwrap_or(n));
     }
 

@@ -1,7 +1,9 @@
-use Rattle.std.proofs.Common.{length, refl, sym, ◌∙◌, ap, arith}
+use Rattle.std.proofs.Common.{Option, IfSome, length, refl, sym, ◌∙◌, ap, subst, arith}
 use Rattle.std.specs.Result.{result_ok}
 use Rattle.std.proofs.lemmas.Bool.{eq-eqb, true≢false}
+use Rattle.vrx_codec.specs.Joining.{FitsLayers}
 use Rattle.vrx_codec.specs.View.{view as view_part}
+use Rattle.vrx_codec.specs.declared.part.Layers.{Layers}
 use Rattle.vrx_rtp.specs.View.{view}
 use Rattle.vrx_frames.proofs.tests.said_by.Goals as goal
 
@@ -20,4 +22,5 @@ returns-in-None g c = record {
   start_is = refl;
   key_is = refl;
   layers_are = c.in-None.is;
+  layers_fit = subst (λ (o : Option Layers). IfSome o FitsLayers) (sym c.in-None.is) tt;
 }

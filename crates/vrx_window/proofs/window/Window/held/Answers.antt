@@ -9,7 +9,7 @@ pub returns-in-Some-Taken : goal.returns-in-Some-Taken
 returns-in-Some-Taken c =
     let is = sym c.get.ensures.value ∙ ap option_copied c.in-Some-Taken.is ∙ ap Some c.in-Some-Taken.field-0-is in
     record {
-      held = sym (packet_at c.self.inside.first c.self.inside.ring c.self.invariant c.args.n
+      held = sym (packet_at c.self.inside.first c.self.inside.ring c.self.invariant.sound c.args.n
           (Some (Taken c.in-Some-Taken.held)) is)
           ∙ ap (λ w. at c.args.n w.packets) c.self.view_is;
     }
@@ -18,7 +18,7 @@ pub returns-in-Some-GivenUp : goal.returns-in-Some-GivenUp
 returns-in-Some-GivenUp c =
     let is = sym c.get.ensures.value ∙ ap option_copied c.in-Some-GivenUp.is ∙ ap Some c.in-Some-GivenUp.field-0-is in
     record {
-      held = sym (packet_at c.self.inside.first c.self.inside.ring c.self.invariant c.args.n (Some GivenUp) is)
+      held = sym (packet_at c.self.inside.first c.self.inside.ring c.self.invariant.sound c.args.n (Some GivenUp) is)
           ∙ ap (λ w. at c.args.n w.packets) c.self.view_is;
     }
 
@@ -26,6 +26,6 @@ pub returns-in-None : goal.returns-in-None
 returns-in-None c =
     let is = sym c.get.ensures.value ∙ ap option_copied c.in-None.is in
     record {
-      held = sym (packet_at c.self.inside.first c.self.inside.ring c.self.invariant c.args.n None is)
+      held = sym (packet_at c.self.inside.first c.self.inside.ring c.self.invariant.sound c.args.n None is)
           ∙ ap (λ w. at c.args.n w.packets) c.self.view_is;
     }

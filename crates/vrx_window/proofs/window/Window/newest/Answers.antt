@@ -5,4 +5,4 @@ use Rattle.vrx_window.proofs.window.Window.newest.Goals as goal
 
 pub returns-clause-sound : goal.returns-clause-sound
 returns-clause-sound c =
-    subst IsWindow c.self.view_is (is_window c.self.inside.first c.self.inside.ring c.self.invariant)
+    subst IsWindow c.self.view_is (is_window c.self.inside.first c.self.inside.ring c.self.invariant.sound)

@@ -10,7 +10,7 @@ returns-in-Some-GivenUp c =
     let young = ap (λ m. is_too_old m c.args.n) (sym c.newest.ensures.newest) ∙ sym c.is_too_old.ensures
     ∙ c.if-is_too_old.false in
     record {
-      would = sym (would_dead c.self.inside.first c.self.inside.ring c.self.invariant c.args.n is young)
+      would = sym (would_dead c.self.inside.first c.self.inside.ring c.self.invariant.sound c.args.n is young)
           ∙ ap (λ w. would_of w c.args.n) c.self.view_is;
     }
 
@@ -20,7 +20,7 @@ returns-in-Some-Taken c =
     let young = ap (λ m. is_too_old m c.args.n) (sym c.newest.ensures.newest) ∙ sym c.is_too_old.ensures
     ∙ c.if-is_too_old.false in
     record {
-      would = sym (would_repeat c.self.inside.first c.self.inside.ring c.self.invariant c.args.n
+      would = sym (would_repeat c.self.inside.first c.self.inside.ring c.self.invariant.sound c.args.n
           c.in-Some-Taken.field-0-0 is young)
           ∙ ap (λ w. would_of w c.args.n) c.self.view_is;
     }
@@ -31,6 +31,6 @@ returns-in-None c =
     let young = ap (λ m. is_too_old m c.args.n) (sym c.newest.ensures.newest) ∙ sym c.is_too_old.ensures
     ∙ c.if-is_too_old.false in
     record {
-      would = sym (would_fresh c.self.inside.first c.self.inside.ring c.self.invariant c.args.n is young)
+      would = sym (would_fresh c.self.inside.first c.self.inside.ring c.self.invariant.sound c.args.n is young)
           ∙ ap (λ w. would_of w c.args.n) c.self.view_is;
     }
