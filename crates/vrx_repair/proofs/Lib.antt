@@ -1,0 +1,17 @@
+mod ClosureLemmas
+mod CommitLemmas
+mod FirstLemmas
+mod MapLemmas
+mod MediaLemmas
+mod NextLemmas
+mod NumberLemmas
+mod OffsetLemmas
+mod OrderLemmas
+mod OtherLemmas
+mod PlanLemmas
+mod Rows
+mod SeenLemmas
+mod StepLemmas
+mod TextLemmas
+mod TruthLemmas
+mod TruthRows
