@@ -6,6 +6,7 @@ use Rattle.std.specs.List.{filter, list_all}
 use Rattle.std.specs.Option.{option_map, option_map_or}
 use Rattle.std.proofs.lemmas.Bool.{and_parts, eq-eqb, ltb-true, or_left, or_right}
 use Rattle.std.proofs.lemmas.Option.{same_Some}
+use Rattle.vrx_num.specs.Index.{index_before}
 use Rattle.vrx_codec.specs.declared.run.Place.{Place}
 use Rattle.vrx_codec.specs.declared.run.Run.{Run}
 use Rattle.vrx_refs.specs.declared.sight.Sight.{Sight}
@@ -132,13 +133,13 @@ module _ (finder : Finder) (told : List Sighting) (pulled : List Run) (knows : K
     by_walk = ap (judge_walk finder) (walk_known place) ∙ walk_judged place _ refl
 
     by : (low sync : Bool)
-        → cond low (judge_base place.picture (base_at finder ((place.tl0 + (INDEXES - 1)) % INDEXES)))
+        → cond low (judge_base place.picture (base_at finder (index_before place.tl0)))
         (cond sync (judge_base place.picture (base_at finder place.tl0)) (judge_walk finder (walk_at finder place)))
         ≡ waits_for pulled (cond low (base_reference place.picture
-        (base pulled ((place.tl0 + (INDEXES - 1)) % INDEXES)))
+        (base pulled (index_before place.tl0)))
         (cond sync (base_reference place.picture (base pulled place.tl0))
         (walk (seen told) (was_pulled_key pulled) place.tid REACH place.picture [])))
-    by true sync = by_base ((place.tl0 + (INDEXES - 1)) % INDEXES) (omega arith)
+    by true sync = by_base (index_before place.tl0) (omega arith)
     by false true = by_base place.tl0 small
     by false false = by_walk
 

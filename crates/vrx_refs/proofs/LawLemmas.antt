@@ -5,9 +5,10 @@ use Rattle.std.specs.List.{filter}
 use Rattle.std.proofs.lemmas.Bool.{and_parts, cases_lt, cond-false, ltb-true, ne_eqb, cases_order, eqb-true, eq-eqb, leb-true, le-leb, or_cases, or_left, or_parts, or_right}
 use Rattle.std.proofs.lemmas.List.{length-map}
 use Rattle.std.proofs.lemmas.Option.{same_Some}
+use Rattle.vrx_num.specs.Index.{index_before}
 use Rattle.vrx_codec.specs.declared.run.Place.{Place}
 use Rattle.vrx_codec.specs.declared.run.Run.{Run}
-use Rattle.vrx_refs.specs.declared.limits.TheConstants.{INDEXES, REACH}
+use Rattle.vrx_refs.specs.declared.limits.TheConstants.{REACH}
 use Rattle.vrx_refs.specs.declared.sighting.Sighting.{Sighting}
 use Rattle.vrx_refs.specs.Laws.{AreNear, AreSeenBetween, AreWalked, FollowsReferences, HasWalked, IsFirst, WalksBack, is_among}
 use Rattle.vrx_refs.specs.References.{are_met, base, base_reference, counts, judge_delta, Judgement, Key, met_with, Needs, pictures, references, seen, Unknown, waits_for, walk, walked, was_met, was_pulled, was_pulled_key}
@@ -254,7 +255,7 @@ base_near p (Some b) found is q among = by (counts p b) refl is where
 pub are_near : AreNear
 are_near told pulled place found is q among = by (place.tid == 0) place.sync is where
   by : (low sync : Bool)
-      → cond low (base_reference place.picture (base pulled ((place.tl0 + (INDEXES - 1)) % INDEXES)))
+      → cond low (base_reference place.picture (base pulled (index_before place.tl0)))
       (cond sync (base_reference place.picture (base pulled place.tl0))
       (walk (seen told) (was_pulled_key pulled) place.tid REACH place.picture [])) ≡ Some found
       → (q < place.picture) × (place.picture ≤ q + REACH)

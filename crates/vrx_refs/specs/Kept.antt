@@ -2,6 +2,7 @@
 use Rattle.std.specs.Prelude.{ℕ, ◌+◌, ◌-◌, ◌%◌, Bool, true, false, ◌||◌, ◌&&◌, not, ◌==◌, nat_lt, max, if◌then◌else◌, List, [], slice_set, Option, Some, None, is_none}
 use Rattle.std.specs.List.{filter}
 use Rattle.std.specs.Option.{option_map, option_map_or}
+use Rattle.vrx_num.specs.Index.{index_before}
 use Rattle.vrx_codec.specs.declared.run.Place.{Place}
 use Rattle.vrx_codec.specs.declared.run.Run.{Run}
 use Rattle.vrx_refs.specs.declared.limits.TheConstants.{INDEXES, MEMORY, REACH}
@@ -100,7 +101,7 @@ judge_base p (Some b) = if counts p b then Needs [] else Unknown
 
 abbrev pub judge_place : Finder → Place → Judgement
 judge_place finder place =
-    if place.tid == 0 then judge_base place.picture (base_at finder ((place.tl0 + (INDEXES - 1)) % INDEXES))
+    if place.tid == 0 then judge_base place.picture (base_at finder (index_before place.tl0))
     else if place.sync then judge_base place.picture (base_at finder place.tl0)
     else judge_walk finder (walk_at finder place)
 

@@ -3,9 +3,10 @@
 -- packets carried, each with its TID, and the runs that were pulled.
 use Rattle.std.specs.Prelude.{ℕ, zero, suc, ◌+◌, ◌-◌, ◌%◌, Bool, true, false, ◌&&◌, ◌||◌, not, ◌==◌, nat_lt, nat_le, max, if◌then◌else◌, List, [], ◌∷◌, ◌++◌, map, length, Option, Some, None, is_some}
 use Rattle.std.specs.List.{filter, list_any}
+use Rattle.vrx_num.specs.Index.{index_before}
 use Rattle.vrx_codec.specs.declared.run.Place.{Place}
 use Rattle.vrx_codec.specs.declared.run.Run.{Run}
-use Rattle.vrx_refs.specs.declared.limits.TheConstants.{INDEXES, LAYERS, MEMORY, REACH}
+use Rattle.vrx_refs.specs.declared.limits.TheConstants.{LAYERS, MEMORY, REACH}
 use Rattle.vrx_refs.specs.declared.sighting.Sighting.{Sighting}
 
 -- the newest picture: the greatest that a packet carried
@@ -101,7 +102,7 @@ walk tids stop tid (suc most) (suc q) met = walked stop tid q (walk tids stop ti
 -- walk goes 255 pictures back at most, and stops at a picture that was pulled as a keyframe.
 abbrev pub references : List Sighting → List Run → Place → Option (List ℕ)
 references told pulled place =
-    if place.tid == 0 then base_reference place.picture (base pulled ((place.tl0 + (INDEXES - 1)) % INDEXES))
+    if place.tid == 0 then base_reference place.picture (base pulled (index_before place.tl0))
     else if place.sync then base_reference place.picture (base pulled place.tl0)
     else walk (seen told) (was_pulled_key pulled) place.tid REACH place.picture []
 

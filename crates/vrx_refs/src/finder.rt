@@ -23,7 +23,7 @@ use arrayvec::ArrayVec;
 use std::alloc::Global;
 use std::marker::Model;
 use vrx_codec::{Place, Run};
-use vrx_num::NoMemory;
+use vrx_num::{NoMemory, before8};
 
 /// What a receiver knows of the frames that a frame refers to.
 ///
@@ -121,7 +121,7 @@ impl Finder {
         ensures index { place.tl0 < INDEXES }
     {
         if place.tid == 0 {
-            self.judge_base(place.picture, place.tl0.wrapping_sub(1))
+            self.judge_base(place.picture, before8(place.tl0))
         } else if place.sync {
             self.judge_base(place.picture, place.tl0)
         } else {

@@ -1,0 +1,48 @@
+use Rattle.std.proofs.Common.{◌∙◌, ap, subst, sym}
+use Rattle.std.specs.List.{Contains, find}
+use Rattle.std.specs.Prelude.{IfSome}
+use Rattle.vrx_codec.specs.declared.run.Run.{Run}
+use Rattle.vrx_buffer.specs.Frames.{AreStanding, is_deliverable, next_of}
+use Rattle.vrx_buffer.specs.Kept.{is_key, is_layered, is_plain, lesser, runs_of}
+use Rattle.vrx_buffer.proofs.NextLemmas.{among-first, among-lesser, among-part, kept-next}
+use Rattle.vrx_buffer.proofs.PartLemmas.{all-layers, all-plain, kept-standing}
+use Rattle.vrx_buffer.proofs.frames.Frames.next.Goals as goal
+
+pub first_if_ready-plain-requires : goal.first_if_ready-plain-requires
+first_if_ready-plain-requires c = record {
+  plain = all-plain _ c.self.inside.keys c.self.inside.plain c.self.inside.layered c.self.invariant;
+}
+
+pub first_ready-requires : goal.first_ready-requires
+first_ready-requires c = record {
+  layers = all-layers _ c.self.inside.keys c.self.inside.plain c.self.inside.layered c.self.invariant;
+}
+
+pub returns-clause-next : goal.returns-clause-next
+returns-clause-next c = λ told pulled knows.
+    kept-next told pulled c.args.passed (runs_of c.self.inside.keys c.self.inside.plain c.self.inside.layered)
+    c.self.inside.keys c.self.inside.plain c.self.inside.layered c.self.invariant
+    c.first-key.result c.first_if_ready-plain.result c.first_ready.result
+    c.first-key.ensures.first (c.first_if_ready-plain.ensures.ready told pulled knows)
+    (c.first_ready.ensures.ready told pulled knows
+    ∙ ap (λ o. lesser o (find (is_deliverable told pulled c.args.passed) c.self.inside.layered)) c.lesser.ensures)
+    ∙ ap (next_of told pulled c.args.passed) c.self.view_is
+
+pub returns-clause-stands : goal.returns-clause-stands
+returns-clause-stands c =
+    let runs = runs_of c.self.inside.keys c.self.inside.plain c.self.inside.layered in
+    let P : Run → Type 0 = λ run. Contains runs run in
+    let key : IfSome c.first-key.result P = subst (λ o. IfSome o P) (sym c.first-key.ensures.first)
+    (among-first P c.self.inside.keys (among-part is_key runs c.self.inside.keys c.self.invariant.keys_are)) in
+    let bare : IfSome c.first_if_ready-plain.result P = c.first_if_ready-plain.ensures.stands runs
+    (among-part is_plain runs c.self.inside.plain c.self.invariant.plain_are) in
+    let best : IfSome c.lesser.result P = subst (λ o. IfSome o P) (sym c.lesser.ensures)
+    (among-lesser P c.first-key.result c.first_if_ready-plain.result key bare) in
+    subst (λ rs. IfSome c.first_ready.result (λ run. Contains rs run)) c.self.view_is
+    (c.first_ready.ensures.stands runs best
+    (among-part is_layered runs c.self.inside.layered c.self.invariant.layered_are))
+
+pub returns-clause-sound : goal.returns-clause-sound
+returns-clause-sound c = subst AreStanding c.self.view_is
+    (kept-standing (runs_of c.self.inside.keys c.self.inside.plain c.self.inside.layered)
+    c.self.inside.keys c.self.inside.plain c.self.inside.layered c.self.invariant)
