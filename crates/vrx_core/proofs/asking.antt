@@ -1,4 +1,5 @@
 -- Lemmas of what is asked for, and of what is given up.
+pub mod MadeLemmas
 pub mod RangeLemmas
 pub mod MissingLemmas
 pub mod SaneLemmas

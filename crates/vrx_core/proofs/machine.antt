@@ -1,4 +1,7 @@
 -- Lemmas of the machine and of its laws.
+pub mod RepairLemmas
+pub mod RepairedLemmas
+pub mod ClosedLemmas
 pub mod SettingsLemmas
 pub mod TextLemmas
 pub mod SeenLemmas
@@ -8,6 +11,7 @@ pub mod OriginalLemmas
 pub mod ReasonLemmas
 pub mod MemberLemmas
 pub mod AnswerLemmas
+pub mod ReferenceLemmas
 pub mod MachineLemmas
 pub mod PulledLemmas
 pub mod VerdictLemmas

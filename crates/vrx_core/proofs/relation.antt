@@ -8,7 +8,9 @@ pub mod AddLemmas
 pub mod StandLemmas
 pub mod FrontKeptLemmas
 pub mod TakenLemmas
-pub mod PlacedLemmas
+pub mod GrowLemmas
+pub mod PlacesLemmas
+pub mod CameLemmas
 pub mod KeptLemmas
 pub mod CallLemmas
 pub mod LeastLemmas

@@ -5,6 +5,7 @@ pub mod SettingsFault
 pub mod Text
 pub mod Original
 pub mod Verdict
+pub mod Told
 pub mod Standing
 pub mod Deliverable
 pub mod Snapshot
@@ -15,6 +16,7 @@ pub mod Machine
 pub mod Reasons
 pub mod Available
 pub mod Answers
+pub mod ReferencesPulled
 pub mod Passed
 pub mod PulledRise
 pub mod Clock

@@ -3,15 +3,15 @@
 ghost use Rattle.std.specs.Prelude.{◌≡◌, ◌⊎◌, ◌+◌, ◌^◌, ◌<◌, ◌≤◌, ◌↔◌, max, List, [], ◌∷◌, Some, None, OnOk, OnErr, IfOk, IfSome, IfErr, IsOk, IsErr, IsErrOf, IsSome};
 ghost use Rattle.vrx_window.specs.Content.{contents_of};
 ghost use Rattle.vrx_frames.specs.Run.{Run as RunOf};
-ghost use Rattle.vrx_core.specs.machine.Machine.{ToDatagram, ToTick, ToPull, IfFrame, frame_of as frame_of_run, last_pulled as last_pulled_of, latest, nack_for, pli_for, reply, snapshots, what_of};
+ghost use Rattle.vrx_core.specs.machine.Machine.{ToDatagram, ToTick, ToPull, IfFrame, frame_of as frame_of_run, latest, nack_for, pli_for, reply, snapshots, what_of};
 ghost use Rattle.vrx_core.specs.machine.Answers.{IsLeastDeliverable, NoneDeliverable};
 ghost use Rattle.vrx_core.specs.machine.Verdict.{verdict as verdict_of};
 ghost use Rattle.vrx_core.specs.machine.SettingsFault.{IsFault, fault_of};
 ghost use Rattle.vrx_core.specs.machine.Reasons.{MeansAnswer};
 ghost use Rattle.vrx_core.specs.relation.StandsFor.{StandsFor};
-ghost use Rattle.vrx_core.specs.relation.Order.{greatest_of};
-ghost use Rattle.vrx_core.specs.inside.Kept.{key_numbers};
-ghost use Rattle.vrx_core.specs.inside.Wants.{AreBelow, AreNear, asked_with, key_with, wanted_with};
+ghost use Rattle.vrx_buffer.specs.Frames.{key_numbers};
+ghost use Rattle.vrx_buffer.specs.Order.{greatest_of};
+ghost use Rattle.vrx_core.specs.inside.Wants.{AreBelow, AreNear, asked_with, key_with, repaired_with, wanted_with};
 ghost use Rattle.vrx_asks.specs.IsAsks.{IsAsks};
 ghost use Rattle.vrx_core.specs.declared.event.Event.{Event};
 ghost use Rattle.vrx_core.specs.declared.reply.What.{What};
@@ -115,6 +115,16 @@ fn ask<C: Codec>(
     }
 }
 
+/// The numbers repaired by a datagram: none, if it isn't taken.
+fn repaired_by(alloc: Global, arrival: Option<Arrival>) -> Numbers
+    ensures { result ≡ repaired_with arrival }
+{
+    match arrival {
+        None => Numbers::new(alloc),
+        Some(arrival) => arrival.repaired,
+    }
+}
+
 impl<C: Codec> Engine<C> {
     /// An engine before its first event.
     ///
@@ -126,7 +136,6 @@ impl<C: Codec> Engine<C> {
         ensures same_ssrc { IsErrOf result NewFault.SameSsrc ↔ IsFault settings NewFault.SameSsrc }
         ensures red_missing { IsErrOf result NewFault.RedMissing ↔ IsFault settings NewFault.RedMissing }
         ensures bad_interval { IsErrOf result NewFault.BadInterval ↔ IsFault settings NewFault.BadInterval }
-        ensures later { IsErrOf result NewFault.Later ↔ IsFault settings NewFault.Later }
         ensures taken { IfOk result (λ _. fault_of settings ≡ None) }
         ensures no_memory { IsErrOf result NewFault.NoMemory → fault_of settings ≡ None }
         ensures refused { IfErr result (λ fault. (fault ≡ NewFault.NoMemory) ⊎ (fault_of settings ≡ Some fault)) }
@@ -179,10 +188,13 @@ impl<C: Codec> Engine<C> {
     /// Takes a datagram that came at this moment, in milliseconds.
     ///
     /// What is taken is a packet of the stream: the datagram itself, or the original of a retransmission (RFC 4588
-    /// 4), out of RED if it is in RED (RFC 2198 3). `Media` and `Empty` have its extended number (RFC 3550 A.1), and
-    /// it is kept without padding (RFC 3550 5.1); `Rtcp` comes of RTCP packets to their end. `Dropped` has the first
+    /// 4), out of RED if it is in RED (RFC 2198 3). `Media`, `Fec` and `Empty` have its extended number (RFC 3550 A.1),
+    /// and it is kept without padding (RFC 3550 5.1); `Rtcp` comes of RTCP packets to their end. `Dropped` has the first
     /// reason that applies, in the order of [`reasons_mean`]: a payload that isn't empty and that the codec refuses
-    /// is `BadPart` with the codec's number, and `Form` comes of a part with layers, which isn't taken.
+    /// is `BadPart` with the codec's number.
+    ///
+    /// Lost packets that can be rebuilt now from FEC packets are available, too (RFC 5109 9), until no more can be:
+    /// `repaired` has their numbers in order. A repaired number isn't asked for.
     ///
     /// The feedback of a datagram that is taken asks for each number that it makes missing, by one NACK, and for a
     /// keyframe, by one PLI, if it gives up a number that no keyframe answers and no request is outstanding.
@@ -219,7 +231,7 @@ impl<C: Codec> Engine<C> {
         );
         Ok(Handled {
             what: outcome.what,
-            repaired: Numbers::new(self.alloc),
+            repaired: repaired_by(self.alloc, outcome.arrival),
             feedback,
         })
     }
@@ -266,11 +278,11 @@ impl<C: Codec> Engine<C> {
             IfOk result (λ pulled. ToPull pulled ≡ reply self.old.settings C.meaning h (Event.Pull moment)) }
         ensures not_ready_exactly { (h : List Event) → StandsFor C.meaning self.old h →
             let s = latest (snapshots self.old.settings C.meaning h) in
-            IfOk result (λ pulled. (pulled ≡ Pulled.NotReady) ↔ NoneDeliverable (last_pulled_of s.pulled) s.front s.standing) }
+            IfOk result (λ pulled. (pulled ≡ Pulled.NotReady) ↔ NoneDeliverable s.told s.pulled s.front s.standing) }
         ensures frame { (h : List Event) → StandsFor C.meaning self.old h →
             let s = latest (snapshots self.old.settings C.meaning h) in
             IfOk result (λ pulled. IfFrame pulled (λ frame.
-            (run : RunOf) × IsLeastDeliverable (last_pulled_of s.pulled) s.front s.standing run × (frame ≡ frame_of_run run))) }
+            (run : RunOf) × IsLeastDeliverable s.told s.pulled s.front s.standing run × (frame ≡ frame_of_run run))) }
         ensures counts { OnOk result ((self.new.events ≡ self.old.events + 1) ×
             (self.new.clock ≡ max self.old.clock moment)) }
         ensures settings { self.new.settings ≡ self.old.settings }

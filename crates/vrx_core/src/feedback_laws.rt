@@ -23,7 +23,7 @@ pub fn asked_are_missing()
     ensures missing { AskedAreMissingHolds }
 {}
 
-/// A number that was given up stays so, and no datagram is taken under it.
+/// A number that was given up stays so, no datagram is taken under it, and no event repairs it.
 pub fn lost_stays()
     ensures stays { LostStaysHolds }
 {}

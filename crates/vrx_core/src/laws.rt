@@ -4,16 +4,19 @@ ghost use Rattle.vrx_core.specs.honest.HonestCall.{HonestCallHolds};
 ghost use Rattle.vrx_core.specs.honest.HonestRuns.{HonestRunsHolds};
 ghost use Rattle.vrx_core.specs.honest.HonestTaken.{HonestTakenHolds};
 
+use vrx_fec::one_payload;
 use vrx_frames::runs_are;
-use vrx_num::extended_is_near;
+use vrx_num::{extended_is_near, picture_is_near};
+use vrx_repair::true_repairs;
 use vrx_rtp::one_reading;
 use vrx_wrap::one_original;
 
-/// The honest call. An honest sender sends keyframes and delta frames of any number of packets each, and packets
-/// without a payload between them. An honest network brings what was sent, each packet plain, in RED, sent again, or
-/// in RED and sent again, with padding or without, with loss, repeats and in any order, each packet at most 32,768
-/// places away from the greatest one taken, and beside it only octets that are RTCP or are refused whatever came
-/// before. Then the frames pulled are frames that were sent, byte for byte, in the order in which they were sent,
+/// The honest call. An honest sender sends keyframes and delta frames of any number of packets each, and between the
+/// frames packets without a payload and FEC packets, each of which is true parity of media packets before it (RFC 5109
+/// 8). An honest network brings what was sent, each packet plain, in RED, sent again, or in RED and sent again (a FEC
+/// packet in RED, sent again or not), with padding or without, with loss, repeats and in any order, each packet at most
+/// 32,768 places away from the greatest one taken, and beside it only octets that are RTCP or are refused whatever
+/// came before. Then the frames pulled are frames that were sent, byte for byte, in the order in which they were sent,
 /// each at most once, from a keyframe on, and each after its chain and its references. Each pull is answered by the
 /// least frame that is ready, and by `NotReady` exactly if none is. Each packet that an event gives up brings a
 /// request for a keyframe in the reply to that event, unless a keyframe that begins beyond the packet stands or was
@@ -25,23 +28,29 @@ pub fn honest_call()
     // Each call cites the laws that the proof needs, and runs nothing.
     runs_are();
     extended_is_near();
+    picture_is_near();
     one_reading();
     one_original();
+    one_payload();
+    true_repairs();
 }
 
 /// What a receiver takes and keeps in an honest call, said in the sender's terms. A datagram of the sender is taken
-/// exactly if it is the first, or its packet was neither taken before nor given up, lies fewer than 2,048 places below
-/// the greatest packet taken and fewer than 32,768 above it. If it is taken, it is answered as what it brings, by its
-/// packet's number. The packets available are those taken that lie fewer than 2,048 places below the greatest, each
-/// under its number: a media packet octet for octet as it was sent, without padding, and an empty packet as empty.
-/// Nothing else is available.
+/// exactly if it is the first, or its packet was neither taken before nor repaired nor given up, lies fewer than 2,048
+/// places below the greatest packet taken and fewer than 32,768 above it. If it is taken, it is answered as what it
+/// brings, by its packet's number. The packets available are those taken or repaired that lie fewer than 2,048 places
+/// below the greatest, each under its number and as it was sent: a media packet octet for octet, without padding, a FEC
+/// packet by its payload, and an empty packet as empty. Nothing else is available.
 pub fn honest_taken()
     ensures taken { HonestTakenHolds }
 {
     // Each call cites the laws that the proof needs, and runs nothing.
     extended_is_near();
+    picture_is_near();
     one_reading();
     one_original();
+    one_payload();
+    true_repairs();
 }
 
 /// The runs of an honest call, after each of its events. Each run that stands is a frame that was sent: it has the
@@ -53,6 +62,9 @@ pub fn honest_runs()
     // Each call cites the laws that the proof needs, and runs nothing.
     runs_are();
     extended_is_near();
+    picture_is_near();
     one_reading();
     one_original();
+    one_payload();
+    true_repairs();
 }

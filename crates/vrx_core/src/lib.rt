@@ -11,10 +11,8 @@ mod engine;
 mod event;
 mod feedback_laws;
 mod frame_bytes;
-mod frames;
 mod front;
 mod held;
-mod keys;
 mod laws;
 mod meanings;
 mod original;
@@ -35,8 +33,8 @@ pub use feedback_laws::{
 };
 pub use laws::{honest_call, honest_runs, honest_taken};
 pub use meanings::{
-    answers_are, available_are, clock_is, none_passed, passed_exactly, passed_stays, pulled_rise,
-    reasons_mean, texts_are,
+    answers_are, available_are, clock_is, none_left, none_passed, passed_exactly, passed_stays,
+    pulled_rise, reasons_mean, references_pulled, texts_are,
 };
 pub use reply::{Frame, FrameBytes, Handled, Pulled, Reason, What};
 pub use settings::{NewFault, Red, Rtx, Settings};

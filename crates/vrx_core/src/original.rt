@@ -5,18 +5,21 @@ ghost use Rattle.std.specs.Result.{result_map_both};
 ghost use Rattle.vrx_num.specs.declared.limits.TheConstants.{MOST_OCTETS};
 ghost use Rattle.vrx_rtp.specs.Reading.{reading};
 ghost use Rattle.vrx_rtp.specs.View.{view};
-ghost use Rattle.vrx_wrap.specs.View.{view_apt};
-ghost use Rattle.vrx_core.specs.machine.Original.{apt_of as apt_of_settings, content_by, control as control_of, fault_reason as fault_reason_of, is_red_type, media_packet as media_packet_of, original as original_of_octets, original_from, original_of as packet_original, original_read, out_of_red as out_of_red_of};
-ghost use Rattle.vrx_core.specs.inside.Seen.{HasTypes, packet_brought, view_brought, view_original, Says, IsSeen};
+ghost use Rattle.vrx_wrap.specs.View.{view_apt, view_block};
+ghost use Rattle.vrx_fec.specs.Reading.{reading as fec_reading};
+ghost use Rattle.vrx_window.specs.Content.{Fec};
+ghost use Rattle.vrx_core.specs.machine.Original.{apt_of as apt_of_settings, as_media as as_media_of, content_by, control as control_of, fault_reason as fault_reason_of, from_block, is_fec_type, is_red_type, media_packet as media_packet_of, original as original_of_octets, original_from, original_of as packet_original, original_read, out_of_red as out_of_red_of, parity_content};
+ghost use Rattle.vrx_core.specs.inside.Seen.{HasTypes, packet_brought, view_brought, view_carried, view_original, Says, IsSeen};
 
 use crate::reply::Reason;
 use crate::settings::{Rtx, Settings};
 use arrayvec::ArrayVec;
 use vrx_codec::{Codec, Part};
+use vrx_fec::read_fec;
 use vrx_num::limits::MOST_OCTETS;
 use vrx_rtcp::read_compound;
 use vrx_rtp::{RtpFaultKind, RtpView, is_rtcp, read};
-use vrx_wrap::{Apt, RedFault, RtxFault, one_block, one_original, red_read, rtx_read};
+use vrx_wrap::{Apt, Block, RedFault, RtxFault, one_block, one_original, red_read, rtx_read};
 
 /// What becomes of a datagram that isn't taken.
 #[derive(Clone, Copy, Debug, PartialEq, Eq)]
@@ -32,8 +35,19 @@ pub enum NotTaken {
 pub(crate) enum PayloadSeen<'a> {
     /// The part of a frame that its payload is.
     Media(Part<'a>),
+    /// Its payload, which is that of a FEC packet.
+    Fec(&'a [u8]),
     /// Nothing: it has no payload.
     Empty,
+}
+
+/// What a packet of the media source carries, out of RED.
+#[derive(Clone, Copy)]
+enum Carried<'a> {
+    /// Media: the packet.
+    Plain(RtpView<'a>),
+    /// Parity: the packet, with the payload of a FEC packet.
+    Parity(RtpView<'a>),
 }
 
 /// A packet of the stream, seen where it lies, and what it brings.
@@ -57,10 +71,17 @@ fn brought_in<'a, C: Codec>(payload: &'a [u8]) -> Result<PayloadSeen<'a>, Reason
     }
     match C::read_part(payload) {
         Err(fault) => Err(Reason::BadPart { code: fault.code }),
-        Ok(part) => match part.layers {
-            Some(_) => Err(Reason::Form),
-            None => Ok(PayloadSeen::Media(part)),
-        },
+        Ok(part) => Ok(PayloadSeen::Media(part)),
+    }
+}
+
+/// Why a payload is refused, if it isn't that of a FEC packet of this number (RFC 5109 7).
+fn reads_as_fec(payload: &[u8], own: u16) -> Result<(), Reason>
+    ensures content { parity_content payload.now (fec_reading payload.now own) ≡ result_map_both (λ _. Fec payload.now) (λ reason. reason) result }
+{
+    match read_fec(payload, own) {
+        Err(_) => Err(Reason::BadFec),
+        Ok(_) => Ok(()),
     }
 }
 
@@ -84,6 +105,16 @@ fn is_red(settings: &Settings, pt: u8) -> bool
     ensures { result ≡ is_red_type settings.now pt }
 {
     settings.red.is_some_and(|red| red.red_type == pt)
+}
+
+/// Whether a payload type is that of ULPFEC blocks in RED.
+fn is_fec(settings: &Settings, pt: u8) -> bool
+    ensures { result ≡ is_fec_type settings.now pt }
+{
+    settings
+        .red
+        .and_then(|red| red.fec_type)
+        .is_some_and(|fec_type| fec_type == pt)
 }
 
 /// The original of a retransmission (RFC 4588 4), or why there is none.
@@ -116,28 +147,49 @@ fn media_packet<'a>(settings: &Settings, packet: &RtpView<'a>) -> Result<RtpView
     Ok(*packet)
 }
 
-/// The packet out of RED (RFC 2198 3), if it is in RED.
-fn out_of_red<'a>(settings: &Settings, packet: &RtpView<'a>) -> Result<RtpView<'a>, Reason>
-    ensures value { out_of_red_of settings.now (view packet.now) ≡ result_map_both view (λ reason. reason) result }
+/// The packet as the media packet of this payload.
+fn as_media<'a>(settings: &Settings, packet: &RtpView<'a>, payload: &'a [u8]) -> RtpView<'a>
+    ensures { view result ≡ as_media_of settings.now (view packet.now) payload.now }
 {
-    if !is_red(settings, packet.pt) {
-        return Ok(*packet);
-    }
-    let payload = match red_read(packet.payload) {
-        Err(RedFault::Empty) => packet.payload,
-        Err(RedFault::MoreBlocks) => return Err(Reason::MoreBlocks),
-        Ok(block) => {
-            if block.pt != settings.media_type {
-                return Err(Reason::BadRed);
-            }
-            block.rest
-        }
-    };
-    Ok(RtpView {
+    RtpView {
         pt: settings.media_type,
         payload,
         ..*packet
-    })
+    }
+}
+
+/// What a RED packet carries by its one block.
+fn in_block<'a>(
+    settings: &Settings,
+    packet: &RtpView<'a>,
+    block: &Block<'a>,
+) -> Result<Carried<'a>, Reason>
+    ensures value { from_block settings.now (view packet.now) (Ok (view_block block.now)) ≡ result_map_both view_carried (λ reason. reason) result }
+{
+    if block.pt == settings.media_type {
+        Ok(Carried::Plain(as_media(settings, packet, block.rest)))
+    } else if is_fec(settings, block.pt) {
+        Ok(Carried::Parity(RtpView {
+            payload: block.rest,
+            ..*packet
+        }))
+    } else {
+        Err(Reason::BadRed)
+    }
+}
+
+/// What a packet carries, out of RED (RFC 2198 3) if it is in RED.
+fn out_of_red<'a>(settings: &Settings, packet: &RtpView<'a>) -> Result<Carried<'a>, Reason>
+    ensures value { out_of_red_of settings.now (view packet.now) ≡ result_map_both view_carried (λ reason. reason) result }
+{
+    if !is_red(settings, packet.pt) {
+        return Ok(Carried::Plain(*packet));
+    }
+    match red_read(packet.payload) {
+        Err(RedFault::Empty) => Ok(Carried::Plain(as_media(settings, packet, packet.payload))),
+        Err(RedFault::MoreBlocks) => Err(Reason::MoreBlocks),
+        Ok(block) => in_block(settings, packet, &block),
+    }
 }
 
 /// What a packet is, or why it is refused.
@@ -151,15 +203,26 @@ fn original_of<'a, C: Codec>(
     ensures says { IfOk result (λ seen. Says C.meaning seen.packet.payload.now seen.brought) }
 {
     let sent = media_packet(settings, packet)?;
-    let plain = out_of_red(settings, &sent)?;
-    let brought = brought_in::<C>(plain.payload)?;
-    Ok(PacketSeen {
-        packet: plain,
-        bare: packet.ssrc == settings.media_ssrc
-            && !is_red(settings, packet.pt)
-            && packet.padding == 0,
-        brought,
-    })
+    match out_of_red(settings, &sent)? {
+        Carried::Plain(plain) => {
+            let brought = brought_in::<C>(plain.payload)?;
+            Ok(PacketSeen {
+                packet: plain,
+                bare: packet.ssrc == settings.media_ssrc
+                    && !is_red(settings, packet.pt)
+                    && packet.padding == 0,
+                brought,
+            })
+        }
+        Carried::Parity(parity) => {
+            reads_as_fec(parity.payload, parity.seq)?;
+            Ok(PacketSeen {
+                packet: parity,
+                bare: false,
+                brought: PayloadSeen::Fec(parity.payload),
+            })
+        }
+    }
 }
 
 /// Why octets are refused that are no packet.

@@ -9,10 +9,9 @@ use vrx_rtcp::Feedback;
 
 /// Why a datagram was refused. Under each of them all stays as it was but the clock and the count of events.
 ///
-/// They stand in the order in which they are tested, but for `Form`, which is tested before `TooFar`. `BadFec` is
-/// never answered.
+/// They stand in the order in which they are tested.
 ///
-/// From `BadPart` on they speak of the packet of the stream that the datagram brings: itself, or the original of a
+/// From `BadFec` on they speak of the packet of the stream that the datagram brings: itself, or the original of a
 /// retransmission (RFC 4588 4), out of RED if it is in RED (RFC 2198 3).
 #[derive(Clone, Copy, Debug, PartialEq, Eq)]
 pub enum Reason {
@@ -35,9 +34,10 @@ pub enum Reason {
     RtxEmpty,
     /// It is RED of more than one block (RFC 2198 3), or a retransmission of such a packet.
     MoreBlocks,
-    /// It is RED, or a retransmission of RED, and the payload type of its one block isn't that of media.
+    /// It is RED, or a retransmission of RED, and the payload type of its one block is neither that of media nor that
+    /// of FEC.
     BadRed,
-    /// It is FEC that doesn't read (RFC 5109 7).
+    /// Its block in RED is of the FEC type, and reads as no payload of a FEC packet of its number (RFC 5109 7).
     BadFec,
     /// Its payload isn't empty, and is no part of a frame, for this fault of the codec's.
     BadPart {
@@ -52,8 +52,6 @@ pub enum Reason {
     Dead,
     /// Its number is available already.
     Repeat,
-    /// Its payload is a part with layers (RFC 7741 4.2), which the receiver doesn't take.
-    Form,
 }
 
 /// What became of a datagram.
@@ -61,7 +59,7 @@ pub enum Reason {
 pub enum What {
     /// It was taken as the media packet of this extended sequence number.
     Media(u64),
-    /// It was taken as the FEC packet of this extended sequence number. It is never answered.
+    /// It was taken as the FEC packet of this extended sequence number, which has no media (RFC 5109 7).
     Fec(u64),
     /// It was taken as the packet of this extended sequence number, and has no payload.
     Empty(u64),
@@ -76,7 +74,8 @@ pub enum What {
 pub struct Handled {
     /// What became of it.
     pub what: What,
-    /// The extended sequence numbers of the packets that were repaired by it: none.
+    /// The extended sequence numbers of the packets that were repaired by it (RFC 5109 9), in the order in which they
+    /// were.
     pub repaired: Numbers,
     /// The feedback that is to be sent.
     pub feedback: Feedback,

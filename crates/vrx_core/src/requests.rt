@@ -1,15 +1,17 @@
 //! What is wanted: missing packets, and a keyframe.
 
-ghost use Rattle.std.specs.Prelude.{◌≡◌, ◌+◌, ◌-◌, ◌<◌, ◌≤◌, ◌^◌, ◌++◌, nat_lt, true, false, [], None, IfOk, IfSome};
+ghost use Rattle.std.specs.Prelude.{◌≡◌, ◌+◌, ◌-◌, ◌<◌, ◌≤◌, ◌^◌, ◌++◌, nat_lt, not, ◌==◌, true, false, [], ◌∷◌, length, None, IfOk, IfSome};
+ghost use Rattle.std.specs.List.{filter};
 ghost use Rattle.std.specs.Option.{option_map_or};
+ghost use Rattle.vrx_num.specs.Extended.{greater};
 ghost use Rattle.vrx_num.specs.declared.limits.TheConstants.{WINDOW as WINDOW_SIZE};
 ghost use Rattle.vrx_asks.specs.Asks.{are_below, asked_numbers, asks_left, given_up_numbers, is_near};
 ghost use Rattle.vrx_asks.specs.IsAsks.{IsAsks};
+ghost use Rattle.vrx_frames.specs.Completed.{is_among as is_among_of};
 ghost use Rattle.vrx_core.specs.machine.GivenUp.{numbers_below};
-ghost use Rattle.vrx_core.specs.inside.Wants.{AreBelow, beyond_front, gap_from as gap_start, gap_of, is_lost_open as is_lost_open_by, is_open as is_open_by, key_taken, last_of as last_among, later_of as later_one, needs_key, nothing_wanted, asks_key, wanted_pulled, wanted_taken, wanted_ticked, with_all_missing};
+ghost use Rattle.vrx_core.specs.inside.Wants.{AreBelow, asks_for, beyond_front, gap_from as gap_start, gap_of, is_lost_open as is_lost_open_by, is_open as is_open_by, key_taken, last_of as last_among, later_of as later_one, needs_key, nothing_wanted, asks_key, wanted_pulled, wanted_taken, wanted_ticked, with_all_missing, without_all};
 
 use crate::assembler::Arrival;
-use crate::keys::later;
 use arrayvec::ArrayVec;
 use std::alloc::Global;
 use std::marker::Model;
@@ -36,6 +38,16 @@ impl Model for Requests {
     ghost Value = { Wanted };
 
     ghost view = { λ a. record { asks = a.asks; lost = a.lost; key_pulled = a.key_pulled; keyed = a.keyed; key_asked = a.key_ask } };
+}
+
+/// The greater of a number, if there is one, and another.
+fn later(number: Option<u64>, n: u64) -> Option<u64>
+    ensures { result ≡ greater number n }
+{
+    match number {
+        Some(number) => Some(number.max(n)),
+        None => Some(n),
+    }
 }
 
 /// The greater of two numbers, if there are any.
@@ -83,18 +95,60 @@ fn gap_from(before: Option<u64>, after: u64) -> u64
     }
 }
 
-/// The numbers from one on, below another, are missing, and are asked for at this moment. They become the whole list.
-fn notice(asks: &mut Asks, from: u64, below: u64, now: u64, numbers: &mut ArrayVec<u64, 2048>)
+/// Whether a number is one of these.
+fn is_among(numbers: &[u64], n: u64) -> bool
+    ensures { result ≡ is_among_of numbers.now n }
+{
+    match numbers {
+        [] => false,
+        [first, rest @ ..] => n == *first || is_among(rest, n),
+    }
+}
+
+/// Puts a number last, unless it is one of these.
+fn push_unless(numbers: &mut ArrayVec<u64, 2048>, among: &[u64], n: u64)
+    requires room { length numbers.old.items < 2048 }
+    ensures items { numbers.new.items ≡ numbers.old.items ++ filter (λ m. not (is_among_of among.now m)) (n ∷ []) }
+    ensures len { length numbers.new.items ≤ length numbers.old.items + 1 }
+{
+    if !is_among(among, n) {
+        numbers.push(n);
+    }
+}
+
+/// These numbers wait no more.
+fn arrive_all(asks: &mut Asks, numbers: &[u64])
+    ensures { asks.new ≡ without_all numbers.now asks.old }
+{
+    match numbers {
+        [] => {}
+        [n, rest @ ..] => {
+            asks.arrived(*n);
+            arrive_all(asks, rest);
+        }
+    }
+}
+
+/// The numbers from one on, below another, are missing, and are asked for at this moment. They become the whole list,
+/// but for those that were repaired.
+fn notice(
+    asks: &mut Asks,
+    from: u64,
+    below: u64,
+    now: u64,
+    repaired: &[u64],
+    numbers: &mut ArrayVec<u64, 2048>,
+)
     requires above { are_below from asks.old ≡ true }
     requires near { is_near (below - 1) asks.old ≡ true }
     requires few { below < from + WINDOW_SIZE }
     ensures noticed { asks.new ≡ with_all_missing now (numbers_below from below) asks.old }
-    ensures numbers { numbers.new.items ≡ numbers_below from below }
+    ensures numbers { numbers.new.items ≡ filter (λ n. not (is_among_of repaired.now n)) (numbers_below from below) }
 {
     numbers.clear();
     for n in from..below {
         asks.noticed(n, now);
-        numbers.push(n);
+        push_unless(numbers, repaired, n);
     }
 }
 
@@ -141,7 +195,7 @@ impl Requests {
         requires below { AreBelow arrival.now.newest self.old.asks }
         requires short { IfSome arrival.now.newest (λ m. m < 2 ^ 62) }
         ensures wanted { self.new ≡ wanted_taken now arrival.now front key self.old }
-        ensures numbers { numbers.new.items ≡ gap_of arrival.now.newest arrival.now.number }
+        ensures numbers { numbers.new.items ≡ asks_for arrival.now }
         ensures key { result ≡ key_taken now arrival.now key self.old }
         ensures sound { IsAsks self.old.asks }
     {
@@ -152,7 +206,9 @@ impl Requests {
         self.asks.passed(after.saturating_sub(WINDOW));
         self.pass(front);
         let from = gap_from(arrival.newest, after);
-        notice(&mut self.asks, from, after, now, numbers);
+        let repaired = arrival.repaired.as_slice();
+        notice(&mut self.asks, from, after, now, repaired, numbers);
+        arrive_all(&mut self.asks, repaired);
         self.lost = later_of(arrival.lost, self.lost);
         if arrival.key {
             self.keyed = true;

@@ -24,7 +24,7 @@ pub struct Settings {
 pub struct Red {
     /// The payload type of the RED packets.
     pub red_type: u8,
-    /// The payload type of the ULPFEC blocks in them (RFC 5109), if there are any. `Engine::new` doesn't take it.
+    /// The payload type of the ULPFEC blocks in them (RFC 5109), if FEC may come in RED.
     pub fec_type: Option<u8>,
 }
 
@@ -57,9 +57,6 @@ pub enum NewFault {
     /// The interval of requests is 0 or above 60,000.
     #[error("the interval is 0 or above 60,000")]
     BadInterval,
-    /// A payload type of FEC is given, which the receiver doesn't take.
-    #[error("FEC is not taken")]
-    Later,
     /// No memory was to be had.
     #[error("out of memory")]
     NoMemory,

@@ -119,8 +119,5 @@ pub(crate) fn fault_of(settings: &Settings) -> Option<NewFault>
     if is_bad_interval(settings.interval) {
         return Some(NewFault::BadInterval);
     }
-    if settings.red.is_some_and(|red| red.fec_type.is_some()) {
-        return Some(NewFault::Later);
-    }
     None
 }

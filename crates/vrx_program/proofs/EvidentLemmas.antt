@@ -7,7 +7,7 @@ use Rattle.vrx_codec.specs.Part.{Part}
 use Rattle.vrx_codec.specs.declared.part.Start.{Start}
 use Rattle.vrx_codec.specs.declared.part.Start.TheVariants.{Yes, No}
 use Rattle.vrx_vp8.specs.Descriptor.{Fields, fields, part_with, part_of, vp8}
-use Rattle.vrx_core.specs.honest.Sender.{SentFrame, SentPacket, Media, Empty, Sender, IsOf, Spans}
+use Rattle.vrx_core.specs.honest.Sender.{SentFrame, SentPacket, Media, Fec, Empty, Sender, IsNoPart, IsOf, Spans}
 use Rattle.vrx_core.specs.honest.HonestSender.{CarriedPart, SaysRightly, IsPart, AreParts, Travels, HonestSender}
 use Rattle.vrx_core.specs.honest.Ready.{SaysStart}
 use Rattle.vrx_core.specs.declared.settings.Settings.{Settings}
@@ -115,11 +115,17 @@ module _ (settings : Settings) (sender : Sender) where
         IsSomeAnd (slice_get sender.packets from) (SaysStart vp8)
     by_frame g None none there after upto =
         absurd (none-some _ (sym none
-        ∙ slice_get-get_or sender.frames g (record { bytes = []; key = false; ts = 0; references = [] }) there))
+        ∙ slice_get-get_or sender.frames g (record { bytes = []; key = false; ts = 0; layers = None; references = [] }) there))
     by_frame g (Some frame) is there after upto =
         by_part g frame (if_there
         (λ (x : SentFrame). Travels settings vp8 sender g x (honest.place g) (honest.parts g))
         (slice_get sender.frames g) frame is (honest.travels g)) (from - honest.place g) (omega arith) (omega arith)
+
+    -- a packet that is no part is of no frame
+    no_part : (packet : SentPacket) → IsNoPart packet → IsOf f packet → ⊥
+    no_part (Media g k text) none of = none
+    no_part (Fec payload) none of = of
+    no_part Empty none of = of
 
     -- it says that the frame begins with it
     says : IsSomeAnd (slice_get sender.packets from) (SaysStart vp8)
@@ -127,7 +133,8 @@ module _ (settings : Settings) (sender : Sender) where
         let w : (packet : SentPacket) × (slice_get sender.packets from ≡ Some packet) =
         what_is_there (IsOf f) (slice_get sender.packets from) of_frame in
         elim (honest.no_other from (slice_get_within sender.packets from w.0 w.1)) [
-          | inl empty ↦ absurd (and_there (IsOf f) (slice_get sender.packets from) Empty empty of_frame)
+          | inl none ↦ absurd (no_part w.0 (and_there IsNoPart (slice_get sender.packets from) w.0 w.1 none)
+              (and_there (IsOf f) (slice_get sender.packets from) w.0 w.1 of_frame))
           | inr p ↦ by_frame p.0 (slice_get sender.frames p.0) refl p.1 p.2 p.3
         ]
 

@@ -23,7 +23,6 @@ unless_fault-none : (codec : CodecName) (settings : Settings) (fault : Option Ne
     (told : CodecName × Settings) → unless_fault codec settings fault ≡ Ok told → (fault ≡ None) × (settings ≡ told.1)
 unless_fault-none codec settings None told is =
     (refl, ap (λ (t : CodecName × Settings). t.1) (same_Some (codec, settings) told (ap result_ok is)))
-unless_fault-none codec settings (Some faults.Later) told is = absurd (no_value errors.Later told is)
 unless_fault-none codec settings (Some faults.BadType) told is = absurd (no_value errors.Settings told is)
 unless_fault-none codec settings (Some faults.SameType) told is = absurd (no_value errors.Settings told is)
 unless_fault-none codec settings (Some faults.SameSsrc) told is = absurd (no_value errors.Settings told is)

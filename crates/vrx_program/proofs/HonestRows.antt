@@ -1,5 +1,5 @@
 -- An honest sender and an honest network, worked by hand: the premises of the law can be met.
-use Rattle.std.proofs.Common.{◌≢◌, ◌≤◌, ◌<◌, ◌≡◌, ◌∙◌, ap, inl, inr, Contains, All, slice_index_or, ℕ, zero, suc, ◌+◌, true, false, List, [], ◌∷◌, length, None, Some, ◌⊎◌, IfSome, slice_get, refl, arith}
+use Rattle.std.proofs.Common.{◌≢◌, ◌≤◌, ◌<◌, ◌≡◌, ◌∙◌, ap, inl, inr, Contains, All, slice_index_or, ℕ, zero, suc, ◌+◌, true, false, List, [], ◌∷◌, length, None, Some, ◌⊎◌, IfSome, IsSomeAnd, slice_get, refl, arith}
 use Rattle.std.specs.Prelude.{nat_lt, nat_le}
 use Rattle.std.specs.List.{AllByRecursion, list_all}
 use Rattle.std.proofs.lemmas.Bool.{and_parts, leb-true, ltb-true}
@@ -8,14 +8,16 @@ use Rattle.vrx_num.specs.Octets.{AreOctets}
 use Rattle.vrx_num.specs.declared.limits.TheConstants.{MOST_OCTETS}
 use Rattle.vrx_rtp.specs.Packet.{Packet}
 use Rattle.vrx_rtp.specs.Reading.{read}
+use Rattle.vrx_repair.specs.Plan.{repairs_in}
 use Rattle.vrx_core.specs.machine.Text.{without_padding}
 use Rattle.vrx_core.specs.honest.WireForm.{Plain, Carries, IsWireForm}
 use Rattle.vrx_vp8.specs.Descriptor.{vp8}
 use Rattle.vrx_core.specs.machine.Machine.{Reply, ToDatagram, ToTick, ToPull, replies, reply, snapshots}
-use Rattle.vrx_core.specs.honest.Sender.{SentFrame, Media, Empty, Sender}
+use Rattle.vrx_core.specs.honest.Sender.{SentFrame, Media, Fec, Empty, Sender, IsNoPart}
 use Rattle.vrx_codec.specs.declared.part.Start.TheVariants.{Yes, No}
+use Rattle.vrx_core.specs.honest.Layers.{HaveNoLayers}
 use Rattle.vrx_core.specs.honest.Chain.{InChain}
-use Rattle.vrx_core.specs.honest.HonestSender.{CarriedPart, IsPart, Travels, HonestSender}
+use Rattle.vrx_core.specs.honest.HonestSender.{CarriedPart, IsPart, IsTrueFec, Travels, HonestSender}
 use Rattle.vrx_core.specs.honest.HonestNetwork.{Origin, FromSender, Elsewhere, HonestNetwork, packets_taken}
 use Rattle.vrx_rtcp.specs.declared.feedback.Feedback.{Feedback}
 use Rattle.vrx_core.specs.declared.settings.Settings.{Settings}
@@ -62,10 +64,10 @@ abbrev third_text : List ℕ
 third_text = 128 ∷ 224 ∷ 0 ∷ 2 ∷ 0 ∷ 0 ∷ 0 ∷ 9 ∷ 0 ∷ 0 ∷ 0 ∷ 10 ∷ 16 ∷ 1 ∷ 204 ∷ []
 
 abbrev first_frame : SentFrame
-first_frame = record { bytes = 0 ∷ 170 ∷ 187 ∷ []; key = true; ts = 0; references = [] }
+first_frame = record { bytes = 0 ∷ 170 ∷ 187 ∷ []; key = true; ts = 0; layers = None; references = [] }
 
 abbrev second_frame : SentFrame
-second_frame = record { bytes = 1 ∷ 204 ∷ []; key = false; ts = 9; references = 0 ∷ [] }
+second_frame = record { bytes = 1 ∷ 204 ∷ []; key = false; ts = 9; layers = None; references = 0 ∷ [] }
 
 abbrev sender : Sender
 sender = record {
@@ -153,11 +155,11 @@ first_is = record {
     source = refl;
     payload = λ e. cc;
     part_reads = refl;
-    layers = refl;
   };
   timestamp = refl;
   marker = (λ e. cc, λ e. absurd (omega arith));
   start = refl;
+  layers = refl;
 }
 
 second_is : IsPart settings vp8 sender 0 first_frame 2 1 1 second_part
@@ -174,11 +176,11 @@ second_is = record {
     source = refl;
     payload = λ e. cc;
     part_reads = refl;
-    layers = refl;
   };
   timestamp = refl;
   marker = (λ e. refl, λ e. refl);
   start = λ same. omega arith;
+  layers = refl;
 }
 
 third_is : IsPart settings vp8 sender 1 second_frame 1 0 3 third_part
@@ -195,11 +197,11 @@ third_is = record {
     source = refl;
     payload = λ e. cc;
     part_reads = refl;
-    layers = refl;
   };
   timestamp = refl;
   marker = (λ e. refl, λ e. refl);
   start = refl;
+  layers = refl;
 }
 
 -- each frame travels
@@ -251,8 +253,10 @@ sender-honest = record {
   travels = elim [ zero ↦ first_travels | suc f ↦ travels f ];
   in_order = order;
   no_other = others;
+  parity = no_parity;
   from_key = refl;
   references = elim [ zero ↦ none | suc f ↦ chains f ];
+  layers = inr no_layers;
   apart = elim [ zero ↦ λ e. omega arith | suc f ↦ last f ];
 } where
   travels : (f : ℕ) → IfSome (slice_get sender.frames (suc f))
@@ -266,12 +270,20 @@ sender-honest = record {
   order (suc f) (suc g) less within = absurd (omega arith)
 
   others : (i : ℕ) → i < length sender.packets →
-      (slice_get sender.packets i ≡ Some Empty)
+      IsSomeAnd (slice_get sender.packets i) IsNoPart
       ⊎ ((f : ℕ) × (f < length sender.frames) × (place f ≤ i) × (i < place f + length (parts f)))
   others zero within = inr (0, omega arith, omega arith, omega arith)
   others (suc zero) within = inr (0, omega arith, omega arith, omega arith)
-  others (suc (suc zero)) within = inl refl
+  others (suc (suc zero)) within = inl tt
   others (suc (suc (suc i))) within = inr (1, omega arith, omega arith, omega arith)
+
+  no_parity : (i : ℕ) (payload : List ℕ) → slice_get sender.packets i ≡ Some (Fec payload) →
+      IsTrueFec sender i payload
+  no_parity zero payload is = absurd (cc)
+  no_parity (suc zero) payload is = absurd (cc)
+  no_parity (suc (suc zero)) payload is = absurd (cc)
+  no_parity (suc (suc (suc zero))) payload is = absurd (cc)
+  no_parity (suc (suc (suc (suc i)))) payload is = absurd (cc)
 
   none : All (λ g. InChain sender 0 g) []
   none = All-nil (λ g. InChain sender 0 g)
@@ -280,6 +292,11 @@ sender-honest = record {
       (λ frame. All (λ g. InChain sender (suc f) g) frame.references)
   chains zero = All-from_recursion (λ g. InChain sender 1 g) (0 ∷ []) (([], (refl, refl)), tt)
   chains (suc f) = tt
+
+  no_layers : HaveNoLayers sender.frames
+  no_layers zero = refl
+  no_layers (suc zero) = refl
+  no_layers (suc (suc f)) = tt
 
   last : (f : ℕ) → IfSome (slice_get sender.frames (suc f))
       (λ frame. IfSome (slice_get sender.frames (suc f + 1)) (λ after. frame.ts ≢ after.ts))
@@ -369,26 +386,35 @@ origins =
 
 -- the network is honest
 pub network-honest : HonestNetwork settings vp8 sender [] [] events origins
-unfolding snapshots packets_taken
+unfolding snapshots packets_taken repairs_in
 network-honest = (
   (second_plain, tt),
+  tt,
   (
     refl,
+    tt,
     (
+      tt,
       tt,
       (
         tt,
+        tt,
         (
           (first_plain, (omega arith, omega arith)),
+          tt,
           (
             (second_plain, (omega arith, omega arith)),
+            tt,
             (
+              tt,
               tt,
               (
                 (third_with_padding, (omega arith, omega arith)),
+                tt,
                 (
                   (third_plain, (omega arith, omega arith)),
-                  (tt, ((empty_with_padding, (omega arith, omega arith)), (tt, tt))),
+                  tt,
+                  (tt, tt, ((empty_with_padding, (omega arith, omega arith)), tt, (tt, tt, tt))),
                 ),
               ),
             ),
@@ -410,5 +436,5 @@ pub padded_taken : replies settings vp8 [] events
     (Dropped Repeat) ∷ ToPull NotReady
     ∷ answered (what.Empty 65537) ∷ ToPull
     (Frame (record { first = 65538; last = 65538; ts = 9; key = false; bytes = 1 ∷ 204 ∷ [] })) ∷ []
-unfolding replies reply snapshots
+unfolding replies reply snapshots repairs_in
 padded_taken = refl

@@ -1,16 +1,18 @@
 -- Whole replays and an inspection, worked by hand: the definitions on captures.
-use Rattle.std.proofs.Common.{◌≡◌, ◌<◌, All, ℕ, zero, suc, List, [], ◌∷◌, ◌++◌, codes, ap, refl, sym, true, false, None, arith, inr}
+use Rattle.std.proofs.Common.{◌≡◌, ◌<◌, All, ℕ, zero, suc, List, [], ◌∷◌, ◌++◌, codes, ap, refl, sym, true, false, Some, None, slice_get, arith, inr}
 use Rattle.std.specs.Prelude.{nat_lt}
 use Rattle.std.specs.List.{AllByRecursion, list_all}
 use Rattle.std.proofs.lemmas.Bool.{and_parts, ltb-true}
 use Rattle.std.specs.Fmt.{digits}
 use Rattle.std.proofs.lemmas.List.Elements.{All-nil, All-from_recursion}
 use Rattle.vrx_vp8.specs.Descriptor.{vp8}
+use Rattle.vrx_repair.specs.Plan.{repairs_in}
 use Rattle.vrx_core.specs.machine.Machine.{snapshots, reply}
-use Rattle.vrx_core.specs.honest.Sender.{SentFrame, Media, Sender}
+use Rattle.vrx_core.specs.honest.Sender.{SentFrame, Media, Fec, Sender}
 use Rattle.vrx_codec.specs.declared.part.Start.TheVariants.{Yes, No}
+use Rattle.vrx_core.specs.honest.Layers.{HaveNoLayers}
 use Rattle.vrx_core.specs.honest.Chain.{InChain}
-use Rattle.vrx_core.specs.honest.HonestSender.{CarriedPart, IsMedia, IsPart, Travels, HonestSender}
+use Rattle.vrx_core.specs.honest.HonestSender.{CarriedPart, IsMedia, IsPart, IsTrueFec, Travels, HonestSender}
 use Rattle.vrx_core.specs.honest.HonestNetwork.{FromSender, Elsewhere, packets_taken}
 use Rattle.vrx_core.specs.honest.WireForm.{Plain, IsWireForm}
 use Rattle.vrx_core.specs.declared.settings.Settings.{Settings}
@@ -33,7 +35,7 @@ settings_alone = refl
 -- a pull before any packet
 pub pull_first : replay_outcome (head ++ codes "p 0" ++ line_feed)
     ≡ record { status = Done; text = codes "2 notready" ++ line_feed; last = [] }
-unfolding text_on_literals settings_of snapshots reply digits
+unfolding text_on_literals settings_of snapshots reply digits repairs_in
 pull_first = refl
 
 -- one keyframe
@@ -45,7 +47,7 @@ pub one_keyframe : replay_outcome keyframe_capture ≡ record {
   text = codes "2 media 65537" ++ line_feed ++ codes "3 frame 65537 65537 key 0 00aa" ++ line_feed;
   last = [];
 }
-unfolding text_on_literals settings_of snapshots reply digits
+unfolding text_on_literals settings_of snapshots reply digits repairs_in
 one_keyframe = refl
 
 -- one keyframe in three packets, the last one first: the pull finds 65537 to 65539, and joins what lies behind the
@@ -61,7 +63,7 @@ pub parts_joined : replay_outcome parts_capture ≡ record {
       ++ line_feed ++ codes "5 frame 65537 65539 key 0 00aabbcc" ++ line_feed;
   last = [];
 }
-unfolding text_on_literals settings_of snapshots reply digits
+unfolding text_on_literals settings_of snapshots reply digits repairs_in
 parts_joined = refl
 
 -- equal SSRCs are refused, and an empty capture has no settings
@@ -86,7 +88,7 @@ abbrev third_text : List ℕ
 third_text = 128 ∷ 224 ∷ 0 ∷ 3 ∷ 0 ∷ 0 ∷ 0 ∷ 0 ∷ 0 ∷ 0 ∷ 0 ∷ 10 ∷ 0 ∷ 204 ∷ []
 
 abbrev keyframe : SentFrame
-keyframe = record { bytes = 0 ∷ 170 ∷ 187 ∷ 204 ∷ []; key = true; ts = 0; references = [] }
+keyframe = record { bytes = 0 ∷ 170 ∷ 187 ∷ 204 ∷ []; key = true; ts = 0; layers = None; references = [] }
 
 abbrev sender : Sender
 sender = record {
@@ -178,11 +180,11 @@ first_is = record {
     source = refl;
     payload = λ e. cc;
     part_reads = refl;
-    layers = refl;
   };
   timestamp = refl;
   marker = (λ e. cc, λ e. absurd (omega arith));
   start = refl;
+  layers = refl;
 }
 
 second_is : IsPart settings vp8 sender 0 keyframe 3 1 1 second_part
@@ -199,11 +201,11 @@ second_is = record {
     source = refl;
     payload = λ e. cc;
     part_reads = refl;
-    layers = refl;
   };
   timestamp = refl;
   marker = (λ e. cc, λ e. absurd (omega arith));
   start = λ same. omega arith;
+  layers = refl;
 }
 
 third_is : IsPart settings vp8 sender 0 keyframe 3 2 2 third_part
@@ -220,11 +222,11 @@ third_is = record {
     source = refl;
     payload = λ e. cc;
     part_reads = refl;
-    layers = refl;
   };
   timestamp = refl;
   marker = (λ e. refl, λ e. refl);
   start = λ same. omega arith;
+  layers = refl;
 }
 
 -- the frame travels in them
@@ -246,10 +248,22 @@ sender-honest = record {
   travels = elim [ zero ↦ keyframe_travels | suc f ↦ tt ];
   in_order = λ f g less within. absurd (omega arith);
   no_other = λ i within. inr (0, omega arith, omega arith, omega arith);
+  parity = no_parity;
   from_key = refl;
   references = elim [ zero ↦ All-nil (λ g. InChain sender 0 g) | suc f ↦ tt ];
+  layers = inr no_layers;
   apart = elim [ zero ↦ tt | suc f ↦ tt ];
-}
+} where
+  no_layers : HaveNoLayers sender.frames
+  no_layers zero = refl
+  no_layers (suc f) = tt
+
+  no_parity : (i : ℕ) (payload : List ℕ) → slice_get sender.packets i ≡ Some (Fec payload) →
+      IsTrueFec sender i payload
+  no_parity zero payload is = absurd (cc)
+  no_parity (suc zero) payload is = absurd (cc)
+  no_parity (suc (suc zero)) payload is = absurd (cc)
+  no_parity (suc (suc (suc i))) payload is = absurd (cc)
 
 -- a packet as it was sent is one of its forms
 plain_form : (number part : ℕ) (carried : CarriedPart) → IsMedia settings vp8 number carried →
@@ -272,14 +286,16 @@ plain_form number part carried m = (
 )
 
 pub parts-honest : IsHonestCapture parts_capture sender (FromSender 2 ∷ FromSender 0 ∷ FromSender 1 ∷ Elsewhere ∷ [])
-unfolding text_on_literals settings_of snapshots packets_taken
+unfolding text_on_literals settings_of snapshots packets_taken repairs_in
 parts-honest = (
   sender-honest,
   (
     (plain_form 3 2 third_part third_is.media, tt),
+    tt,
     (
       (plain_form 1 0 first_part first_is.media, (omega arith, omega arith)),
-      ((plain_form 2 1 second_part second_is.media, (omega arith, omega arith)), (tt, tt)),
+      tt,
+      ((plain_form 2 1 second_part second_is.media, (omega arith, omega arith)), tt, (tt, tt, tt)),
     ),
   ),
 )

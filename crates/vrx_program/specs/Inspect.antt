@@ -1,10 +1,8 @@
 -- What an inspection of a capture gives: a status and a text.
-use Rattle.std.specs.Prelude.{ℕ, Bool, true, false, nat_lt, if◌then◌else◌, List, [], ◌∷◌, ◌++◌, length, Option, Some, None}
+use Rattle.std.specs.Prelude.{ℕ, Bool, true, false, nat_lt, if◌then◌else◌, List, [], ◌∷◌, ◌++◌, length, Option, Some, None, is_none}
 use Rattle.std.specs.Option.{option_map}
 use Rattle.vrx_core.specs.machine.SettingsFault.{fault_of}
 use Rattle.vrx_core.specs.declared.settings.Settings.{Settings}
-use Rattle.vrx_core.specs.declared.settings.NewFault.{NewFault}
-use Rattle.vrx_core.specs.declared.settings.NewFault.TheVariants as faults
 use Rattle.vrx_core.specs.declared.event.Event.{Event}
 use Rattle.vrx_core.specs.declared.event.Event.TheVariants.{Datagram, Tick, Pull}
 use Rattle.vrx_capture.specs.Line.{lines_of, longest_line}
@@ -17,16 +15,10 @@ use Rattle.vrx_text.specs.declared.transcript.ErrorReason.TheVariants as errors
 use Rattle.vrx_program.specs.Outcome.{Outcome, refusal, status_of, error_text}
 use Rattle.vrx_program.specs.Job.{Answering, most_events, bad_line}
 
--- settings without a fault are right, whatever the codec; and so are those whose only fault is that a replay doesn't
--- take them
-abbrev pub is_right : Option NewFault → Bool
-is_right None = true
-is_right (Some faults.Later) = true
-is_right (Some fault) = false
-
+-- settings without a fault are right, whatever the codec
 abbrev pub has_right_settings : Option (CodecName × Settings) → Bool
 has_right_settings None = false
-has_right_settings (Some (codec, settings)) = is_right (fault_of settings)
+has_right_settings (Some (codec, settings)) = is_none (fault_of settings)
 
 -- a settings line is right
 unfoldable pub is_head : List ℕ → Bool

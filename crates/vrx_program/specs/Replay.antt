@@ -30,9 +30,8 @@ abbrev pub meaning_of : CodecName → Meaning
 meaning_of Vp8 = vp8
 meaning_of H264 = h264
 
--- a codec and settings with this fault, if any: the fault is the line's; but FEC is right, and not taken
+-- a codec and settings with this fault, if any: the fault is the line's
 abbrev pub unless_fault : CodecName → Settings → Option NewFault → Result (CodecName × Settings) ErrorReason
-unless_fault codec settings (Some faults.Later) = Err errors.Later
 unless_fault codec settings (Some fault) = Err errors.Settings
 unless_fault codec settings None = Ok (codec, settings)
 
@@ -89,8 +88,7 @@ replay_outcome capture = outcome_of (call_of capture)
 abbrev pub replaying : Settings → Meaning → Answering
 replaying settings codec = record { text = λ h k event. text_of k (reply settings codec h event) }
 
--- why no engine stands for settings with this fault: FEC is right, and a replay doesn't take it
+-- why no engine stands for settings with this fault
 abbrev pub hindrance_of : NewFault → Unanswered
 hindrance_of faults.NoMemory = unanswered.NoMemory
-hindrance_of faults.Later = unanswered.Refused errors.Later
 hindrance_of fault = unanswered.Refused errors.Settings

@@ -1,10 +1,10 @@
 //! The word inspect: a capture in, what each of its datagrams is out.
 
-ghost use Rattle.std.specs.Prelude.{◌≡◌, ◌≢◌, ◌⊎◌, ◌+◌, ◌++◌, ◌≤◌, ⊤, length, Some, None, IfErr, IfOk, OnOk, MatchOption};
+ghost use Rattle.std.specs.Prelude.{◌≡◌, ◌≢◌, ◌⊎◌, ◌+◌, ◌++◌, ◌≤◌, ⊤, false, length, Some, None, IfErr, IfOk, OnOk, MatchOption};
 ghost use Rattle.vrx_core.specs.machine.SettingsFault.{fault_of as fault_of_settings};
 ghost use Rattle.vrx_capture.specs.Line.{longest_line};
 ghost use Rattle.vrx_text.specs.Inspection.{inspection};
-ghost use Rattle.vrx_program.specs.Inspect.{is_right, is_head, inspecting, inspection_outcome};
+ghost use Rattle.vrx_program.specs.Inspect.{is_head, inspecting, inspection_outcome};
 
 use crate::job::{Job, Unanswered};
 use std::alloc::Global;
@@ -28,13 +28,12 @@ fn fault_of(alloc: Global, settings: Settings) -> Option<NewFault>
     Engine::<Vp8>::new(alloc, settings).err()
 }
 
-/// Whether settings with this fault are right: their only fault is that a replay doesn't take them.
-fn is_right_but_for(fault: NewFault) -> Result<bool, NoMemory>
-    ensures right { IfOk result (λ right. right ≡ is_right (Some fault)) }
+/// Whether settings with this fault are right: they aren't, if the fault is theirs.
+fn is_right_with(fault: NewFault) -> Result<bool, NoMemory>
+    ensures right { IfOk result (λ right. right ≡ false) }
     ensures no_memory { IfOk result (λ _. fault ≢ NewFault.NoMemory) }
 {
     match fault {
-        NewFault::Later => Ok(true),
         NewFault::NoMemory => Err(NoMemory),
         NewFault::BadType => Ok(false),
         NewFault::SameType => Ok(false),
@@ -44,7 +43,7 @@ fn is_right_but_for(fault: NewFault) -> Result<bool, NoMemory>
     }
 }
 
-/// Whether the settings line is right, if a replay takes its settings or not.
+/// Whether the settings line is right.
 fn has_right_settings(alloc: Global, line: &[u8]) -> Result<bool, NoMemory>
     requires short { length line.now ≤ longest_line }
     ensures right { IfOk result (λ right. right ≡ is_head line.now) }
@@ -54,7 +53,7 @@ fn has_right_settings(alloc: Global, line: &[u8]) -> Result<bool, NoMemory>
     };
     match fault_of(alloc, settings) {
         None => Ok(true),
-        Some(fault) => is_right_but_for(fault),
+        Some(fault) => is_right_with(fault),
     }
 }
 

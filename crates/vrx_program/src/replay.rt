@@ -60,13 +60,12 @@ fn reply_of<C: Codec>(
     }
 }
 
-/// Why no engine stands for settings with a fault: FEC is right, and a replay doesn't take it.
+/// Why no engine stands for settings with a fault.
 fn hindrance_of(fault: NewFault) -> Unanswered
     ensures reason { result ≡ hindrance_of fault }
 {
     match fault {
         NewFault::NoMemory => Unanswered::NoMemory,
-        NewFault::Later => Unanswered::Refused(ErrorReason::Later),
         NewFault::BadType => Unanswered::Refused(ErrorReason::Settings),
         NewFault::SameType => Unanswered::Refused(ErrorReason::Settings),
         NewFault::SameSsrc => Unanswered::Refused(ErrorReason::Settings),

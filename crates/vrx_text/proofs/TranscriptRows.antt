@@ -5,7 +5,7 @@ use Rattle.hex.specs.Hex.{encode_with}
 use Rattle.vrx_core.specs.machine.Machine.{ToDatagram, ToTick}
 use Rattle.vrx_core.specs.declared.reply.What.TheVariants.{Fec}
 use Rattle.vrx_capture.specs.declared.line.LineReason.TheVariants.{Hex}
-use Rattle.vrx_text.specs.declared.transcript.ErrorReason.TheVariants.{Settings, Later, Line}
+use Rattle.vrx_text.specs.declared.transcript.ErrorReason.TheVariants.{Settings, Line}
 use Rattle.vrx_text.specs.Transcript.{line_feed, text_of, error_line}
 
 -- the octets of a NACK of the number 5 (RFC 4585 6.2.1), and those of a PLI (6.3.1)
@@ -41,10 +41,6 @@ tick_with_pli = refl
 pub bad_settings : error_line 1 Settings ≡ codes "error line 1 settings" ++ line_feed
 unfolding error_line digits
 bad_settings = refl
-
-pub later : error_line 1 Later ≡ codes "error line 1 later" ++ line_feed
-unfolding error_line digits
-later = refl
 
 pub bad_digits : error_line 12 (Line Hex) ≡ codes "error line 12 hex" ++ line_feed
 unfolding error_line digits

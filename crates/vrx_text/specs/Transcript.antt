@@ -10,7 +10,7 @@ use Rattle.vrx_core.specs.machine.Machine.{Reply, ToDatagram, ToTick, ToPull, re
 use Rattle.vrx_core.specs.declared.settings.Settings.{Settings}
 use Rattle.vrx_core.specs.declared.event.Event.{Event}
 use Rattle.vrx_core.specs.declared.reply.Reason.{Reason}
-use Rattle.vrx_core.specs.declared.reply.Reason.TheVariants.{TooLong, BadRtcp, NotRtp, BadHeader, OtherSsrc, OtherType, NoApt, RtxEmpty, MoreBlocks, BadRed, BadFec, BadPart, TooFar, TooOld, Dead, Repeat, Form}
+use Rattle.vrx_core.specs.declared.reply.Reason.TheVariants.{TooLong, BadRtcp, NotRtp, BadHeader, OtherSsrc, OtherType, NoApt, RtxEmpty, MoreBlocks, BadRed, BadFec, BadPart, TooFar, TooOld, Dead, Repeat}
 use Rattle.vrx_core.specs.declared.reply.What.{What}
 use Rattle.vrx_core.specs.declared.reply.What.TheVariants.{Media, Fec, Empty, Rtcp, Dropped}
 use Rattle.vrx_core.specs.declared.reply.Frame.{Frame}
@@ -20,7 +20,7 @@ use Rattle.vrx_core.specs.declared.reply.Handled.{Handled}
 use Rattle.vrx_capture.specs.declared.line.LineReason.{LineReason}
 use Rattle.vrx_capture.specs.declared.line.LineReason.TheVariants.{Lines, Long, Kind, Events, Moment, End, Hex}
 use Rattle.vrx_text.specs.declared.transcript.ErrorReason.{ErrorReason}
-use Rattle.vrx_text.specs.declared.transcript.ErrorReason.TheVariants.{Settings as OfSettings, Later, Line}
+use Rattle.vrx_text.specs.declared.transcript.ErrorReason.TheVariants.{Settings as OfSettings, Line}
 
 abbrev pub line_feed : List ℕ
 line_feed = 10 ∷ []
@@ -43,7 +43,6 @@ reason_text TooFar = codes "TooFar"
 reason_text TooOld = codes "TooOld"
 reason_text Dead = codes "Dead"
 reason_text Repeat = codes "Repeat"
-reason_text Form = codes "Form"
 
 -- the word for a kind of frame
 abbrev pub kind_text : Bool → List ℕ
@@ -117,7 +116,6 @@ line_reason_text Hex = codes "hex"
 -- the word for why a capture is read no further
 abbrev pub error_reason_text : ErrorReason → List ℕ
 error_reason_text OfSettings = codes "settings"
-error_reason_text Later = codes "later"
 error_reason_text (Line reason) = line_reason_text reason
 
 -- the last line if line k is bad: error line K REASON

@@ -1,4 +1,4 @@
-//! The texts of replies that don't come yet, and each text once. Expected values were worked out by hand.
+//! Each text once, also of replies that a capture seldom brings. Expected values were worked out by hand.
 
 use crate::{
     ErrorReason, inspect_text, text_of_error, text_of_handled, text_of_pulled, text_of_tick,

@@ -19,8 +19,6 @@ use vrx_rtcp::Feedback;
 pub enum ErrorReason {
     /// It is the first line, and it is absent, too long, no settings line, or its settings are refused.
     Settings,
-    /// It is right, and asks for what `replay` doesn't take.
-    Later,
     /// It is bad for this reason.
     Line(LineReason),
 }
@@ -115,7 +113,6 @@ fn reason_word(reason: Reason) -> Result<&'static str, u8>
         Reason::TooOld => Ok("TooOld"),
         Reason::Dead => Ok("Dead"),
         Reason::Repeat => Ok("Repeat"),
-        Reason::Form => Ok("Form"),
     }
 }
 
@@ -365,7 +362,6 @@ fn error_reason_text(reason: ErrorReason) -> &'static str
 {
     match reason {
         ErrorReason::Settings => "settings",
-        ErrorReason::Later => "later",
         ErrorReason::Line(reason) => line_reason_text(reason),
     }
 }

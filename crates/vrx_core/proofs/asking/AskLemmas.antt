@@ -1,5 +1,5 @@
 -- What is kept of requests, as lists: asks of moments, and the greatest of numbers.
-use Rattle.std.proofs.Common.{◌≡◌, ℕ, suc, ◌+◌, ◌-◌, ◌<◌, ◌≤◌, max, Bool, true, false, cond, not, ◌&&◌, ◌==◌, List, [], ◌∷◌, ◌++◌, map, length, filter, Contains, Option, Some, None, slice_get, refl, sym, ◌∙◌, ap, arith, inl, inr, nat_lt, nat_le}
+use Rattle.std.proofs.Common.{◌≡◌, ℕ, suc, ◌+◌, ◌-◌, ◌<◌, ◌≤◌, max, Bool, true, false, cond, not, ◌&&◌, ◌||◌, ◌==◌, List, [], ◌∷◌, ◌++◌, map, length, filter, Contains, Option, Some, None, slice_get, refl, sym, ◌∙◌, ap, arith, inl, inr, nat_lt, nat_le}
 use Rattle.std.specs.List.{list_all}
 use Rattle.std.proofs.lemmas.Bool.{and_parts, or_parts, cases_lt, eq-eqb, ne_eqb, leb-true, le-leb, lt-leb, lt-ltb, ltb-true}
 use Rattle.std.proofs.lemmas.List.{append-nil, append_assoc}
@@ -10,13 +10,13 @@ use Rattle.vrx_asks.specs.IsAsks.{IsAsks, is_counted}
 use Rattle.vrx_asks.specs.declared.ask.Ask.{Ask}
 use Rattle.vrx_frames.specs.Completed.{is_among}
 use Rattle.vrx_frames.specs.Run.{is_passed}
-use Rattle.vrx_core.specs.inside.Wants.{beyond_front, last_of, later_of, with_all_missing}
+use Rattle.vrx_core.specs.inside.Wants.{beyond_front, last_of, later_of, with_all_missing, without_all}
 use Rattle.vrx_core.specs.machine.Machine.{Snapshot}
 use Rattle.vrx_core.specs.machine.Request.{is_old, missing, requests}
-use Rattle.vrx_core.specs.relation.Order.{greatest_of}
+use Rattle.vrx_buffer.specs.Order.{greatest_of}
 use Rattle.vrx_core.specs.relation.StandsFor.{ask_of}
 use Rattle.vrx_core.proofs.relation.ListLemmas.{Rises, all-of, filter-map, filter-same, filter-whole, map-to}
-use Rattle.vrx_core.proofs.asking.RangeLemmas.{list_all-each}
+use Rattle.vrx_core.proofs.asking.RangeLemmas.{filter-filter, list_all-each}
 use Rattle.vrx_core.proofs.asking.SaneLemmas.{was_asked}
 
 -- the last of moments
@@ -150,6 +150,34 @@ module _ (past : List Snapshot) (ns : List ℕ) where
   -- and but for one
   pub without-number : (n : ℕ) → without n (map (ask_of past) ns) ≡ map (ask_of past) (filter (λ m. not (m == n)) ns)
   without-number n = filter-map (ask_of past) (λ ask. not (ask.number == n)) ns
+
+-- a number that isn't among others and isn't one
+none-of-both : (a b : Bool) → (not a && not b) ≡ not (b || a)
+none-of-both true true = refl
+none-of-both true false = refl
+none-of-both false true = refl
+none-of-both false false = refl
+
+-- the asks without those for these numbers
+pub without-all : (ns : List ℕ) (asks : List Ask) →
+    without_all ns asks ≡ filter (λ ask. not (is_among ns ask.number)) asks
+without-all [] asks = sym (filter-whole (λ ask. true) asks (all-of (λ ask. true ≡ true) asks (λ ask c. refl)))
+without-all (n ∷ ns) asks = without-all ns (without n asks)
+    ∙ filter-filter (λ ask. not (is_among ns ask.number)) (λ ask. not (ask.number == n))
+    (λ ask. not (is_among (n ∷ ns) ask.number)) asks
+    (all-of (λ ask. (not (is_among ns ask.number) && not (ask.number == n)) ≡ not (is_among (n ∷ ns) ask.number)) asks
+    (λ ask c. none-of-both (is_among ns ask.number) (ask.number == n)))
+
+-- what passes a test of one list after another
+pub filter-append : {X : Type 0} (test : X → Bool) (xs ys : List X) →
+    filter test (xs ++ ys) ≡ filter test xs ++ filter test ys
+filter-append test [] ys = refl
+filter-append test (x ∷ xs) ys = by (test x) (filter-append test xs ys) where
+  by : (b : Bool) → filter test (xs ++ ys) ≡ filter test xs ++ filter test ys →
+      cond b (x ∷ filter test (xs ++ ys)) (filter test (xs ++ ys)) ≡ cond b (x ∷ filter test xs) (filter test xs)
+      ++ filter test ys
+  by true rest = ap (λ zs. x ∷ zs) rest
+  by false rest = rest
 
 -- an ask for the first time
 abbrev pub first_ask : ℕ → ℕ → Ask

@@ -8,14 +8,16 @@ use Rattle.std.proofs.lemmas.Option.{none-some, same_Some}
 use Rattle.vrx_num.specs.declared.limits.TheConstants.{WINDOW}
 use Rattle.vrx_codec.specs.Meaning.{Meaning}
 use Rattle.vrx_window.specs.Content.{Content}
-use Rattle.vrx_window.specs.Window.{at, is_available, newest_with, after_placing}
+use Rattle.vrx_window.specs.Window.{at, is_available, newest_with}
 use Rattle.vrx_frames.specs.Front.{is_no_media, reach_from, front_after}
 use Rattle.vrx_codec.specs.declared.run.Place.{Place}
 use Rattle.vrx_frames.specs.Run.{Packets, Piece, Run, first_alone, is_passed, is_start, last_alone, run_of, runs_by, stands, stretch}
 use Rattle.vrx_num.specs.OptionChain.{◌>>=◌}
+use Rattle.vrx_repair.specs.Source.{Source}
 use Rattle.vrx_core.specs.machine.Available.{IsInWindow}
-use Rattle.vrx_core.specs.machine.Machine.{Snapshot, latest, last_pulled, times, next_run, after_datagram, after_pull, snapshots}
-use Rattle.vrx_core.specs.machine.Standing.{began_after_end, no_layers, runs}
+use Rattle.vrx_core.specs.machine.Machine.{Snapshot, latest, last_pulled, times, next_run, after_datagram, after_pull, snapshots, source_in}
+use Rattle.vrx_core.specs.machine.Standing.{began_after_end, runs}
+use Rattle.vrx_core.specs.machine.Told.{place_told}
 use Rattle.vrx_core.specs.machine.Verdict.{verdict}
 use Rattle.vrx_core.specs.declared.settings.Settings.{Settings}
 use Rattle.vrx_core.specs.declared.event.Event.{Event}
@@ -93,11 +95,12 @@ last-after (Some f) (Some l) packets =
 abbrev LastPassed : Snapshot → Type 0
 LastPassed s = IfSome (last_pulled s.pulled) (λ l. is_passed s.front l ≡ true)
 
-last-datagram : (codec : Meaning) (past : List Snapshot) (moment : ℕ) (v : Result (ℕ × Content) NotTaken) →
-    LastPassed (latest past) → LastPassed (after_datagram codec past moment v)
-last-datagram codec past moment (Err left) before = before
-last-datagram codec past moment (Ok (n, content)) before = let s : Snapshot =
-    latest past in last-after s.front (last_pulled s.pulled) (after_placing n content s.window).packets
+last-datagram : (source : Source) (past : List Snapshot) (moment : ℕ) (v : Result (ℕ × Content) NotTaken) →
+    LastPassed (latest past) → LastPassed (after_datagram source past moment v)
+last-datagram source past moment (Err left) before = before
+last-datagram source past moment (Ok (n, content)) before =
+    let s : Snapshot = latest past in
+    last-after s.front (last_pulled s.pulled) (after_datagram source past moment (Ok (n, content))).window.packets
 
 last-pull : (codec : Meaning) (past : List Snapshot) (moment : ℕ) (o : Option Run) → LastPassed (latest past) →
     LastPassed (after_pull codec past moment o)
@@ -112,7 +115,7 @@ unfolding snapshots
 last-passed settings codec [] = tt
 last-passed settings codec (Datagram moment octets ∷ h) =
     let past : List Snapshot = snapshots settings codec h in
-    last-datagram codec past moment (verdict settings codec (latest past).window octets)
+    last-datagram (source_in settings codec) past moment (verdict settings codec (latest past).window octets)
     (last-passed settings codec h)
 last-passed settings codec (Tick moment ∷ h) = last-passed settings codec h
 last-passed settings codec (Pull moment ∷ h) =
@@ -147,13 +150,14 @@ not-passed before last packets m none known absent = by (is_passed before m) ref
 
 module _ (settings : Settings) (codec : Meaning) (h : List Event) (moment n : ℕ) (content : Content) where
   -- with a datagram that is taken no number becomes passed that isn't available after it
-  pub passed-same : (m : ℕ) →
-      is_available m (after_placing n content (latest (snapshots settings codec h)).window).packets ≡ false
-      → is_passed (after_datagram codec (snapshots settings codec h) moment (Ok (n, content))).front m ≡ is_passed
-      (latest (snapshots settings codec h)).front m
+  pub passed-same : (m : ℕ) → is_available m (after_datagram (source_in settings codec)
+      (snapshots settings codec h) moment (Ok (n, content))).window.packets ≡ false
+      → is_passed (after_datagram (source_in settings codec) (snapshots settings codec h) moment
+      (Ok (n, content))).front m ≡ is_passed (latest (snapshots settings codec h)).front m
   passed-same m absent =
       let s : Snapshot = latest (snapshots settings codec h) in
-      not-passed s.front (last_pulled s.pulled) (after_placing n content s.window).packets m
+      not-passed s.front (last_pulled s.pulled) (after_datagram (source_in settings codec)
+      (snapshots settings codec h) moment (Ok (n, content))).window.packets m
       (has_none settings codec h) (last-passed settings codec h) absent
 
 -- what is available lies in the window
@@ -257,8 +261,8 @@ stood-there : (codec : Meaning) (past : List Snapshot) (run : Run) → IsSettled
     Contains (latest past).standing run → is_available run.last (latest past).window.packets ≡ true
 stood-there codec past run settled c =
     let s : Snapshot = latest past in
-    run-there codec no_layers (is_start s.front (began_after_end (times past))) s.window.packets run
-    (filter-from (stands (last_pulled s.pulled)) (runs codec (times past) s.front s.window.packets) run
+    run-there codec (place_told s.told) (is_start s.front (began_after_end (times past))) s.window.packets run
+    (filter-from (stands (last_pulled s.pulled)) (runs codec s.told (times past) s.front s.window.packets) run
     (subst (λ (rs : List Run). Contains rs run) settled c)).0
 
 -- after each event no number above the newest is passed
@@ -267,14 +271,14 @@ FrontUpTo s = (m : ℕ) → is_passed s.front m ≡ true → IsUpToNewest s.wind
 
 module _ (settings : Settings) (codec : Meaning) where
   upto-datagram : (h : List Event) (moment : ℕ) (octets : List ℕ) (v : Result (ℕ × Content) NotTaken)
-      → ((m : ℕ) → is_available m (after_datagram codec (snapshots settings codec h) moment v).window.packets ≡ true →
-      IsInWindow (after_datagram codec (snapshots settings codec h) moment v).window.newest m)
+      → ((m : ℕ) → is_available m (after_datagram (source_in settings codec) (snapshots settings codec h) moment v).window.packets ≡ true →
+      IsInWindow (after_datagram (source_in settings codec) (snapshots settings codec h) moment v).window.newest m)
       → FrontUpTo (latest (snapshots settings codec h)) →
-      FrontUpTo (after_datagram codec (snapshots settings codec h) moment v)
+      FrontUpTo (after_datagram (source_in settings codec) (snapshots settings codec h) moment v)
   upto-datagram h moment octets (Err left) inside before m passed = before m passed
   upto-datagram h moment octets (Ok (n, content)) inside before m passed =
-      elim (cases_Bool (is_available m
-      (after_placing n content (latest (snapshots settings codec h)).window).packets)) [
+      elim (cases_Bool (is_available m (after_datagram (source_in settings codec) (snapshots settings codec h)
+      moment (Ok (n, content))).window.packets)) [
         | inl there ↦ upto-window (Some (newest_with (latest (snapshots settings codec h)).window.newest n)) m
             (inside m there)
         | inr absent ↦ upto-with (latest (snapshots settings codec h)).window.newest n m
@@ -287,7 +291,7 @@ module _ (settings : Settings) (codec : Meaning) where
   upto-pull h moment None is before m passed = before m passed
   upto-pull h moment (Some run) is before m passed =
       let s : Snapshot = latest (snapshots settings codec h) in
-      let given : Contains s.standing run = (answer-given (last_pulled s.pulled) s.front s.standing run is).0 in
+      let given : Contains s.standing run = (answer-given s.told s.pulled s.front s.standing run is).0 in
       elim (passed-either s.front (Some run.last) s.window.packets m passed) [
         | inl old ↦ before m old
         | inr other ↦ elim other [

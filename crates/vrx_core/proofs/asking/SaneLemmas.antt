@@ -8,9 +8,10 @@ use Rattle.vrx_window.specs.Content.{Content}
 use Rattle.vrx_window.specs.Window.{Contents, at, in_window, is_available, is_dead, is_inside, newest_with, after_placing, entries_with}
 use Rattle.vrx_frames.specs.Completed.{is_among}
 use Rattle.vrx_frames.specs.Run.{Run, is_passed}
+use Rattle.vrx_repair.specs.Source.{Source}
 use Rattle.vrx_core.specs.machine.Asking.{IsMissing}
 use Rattle.vrx_core.specs.machine.GivenUp.{is_lost, numbers_left}
-use Rattle.vrx_core.specs.machine.Machine.{Snapshot, latest, opening, next_run, after_settling, after_datagram, after_pull, after_tick, snapshots}
+use Rattle.vrx_core.specs.machine.Machine.{Snapshot, latest, opening, next_run, after_settling, after_packet, after_datagram, after_pull, after_tick, snapshots, source_in}
 use Rattle.vrx_core.specs.machine.Request.{is_old, missing, requests}
 use Rattle.vrx_core.specs.machine.Snapshot.{moved}
 use Rattle.vrx_core.specs.machine.Verdict.{verdict}
@@ -22,6 +23,7 @@ use Rattle.vrx_core.proofs.machine.AvailableLemmas.{placed_new, placed_old, wind
 use Rattle.vrx_core.proofs.machine.VerdictLemmas.{IsFresh, verdict-taken, fresh-is}
 use Rattle.vrx_core.proofs.relation.ListLemmas.{filter-from}
 use Rattle.vrx_core.proofs.relation.WindowLemmas.{among-filter}
+use Rattle.vrx_core.proofs.asking.MadeLemmas.{made-available-stays}
 use Rattle.vrx_core.proofs.asking.MissingLemmas.{missing-from}
 use Rattle.vrx_core.proofs.asking.RangeLemmas.{Leaves, among-from, among-withs, left-from}
 
@@ -73,7 +75,7 @@ available-there None h = absurd (true≢false (sym h))
 available-there (Some content) h = (content, refl)
 
 -- a number inside the new window that wasn't inside the old one isn't below the newest
-inside-before : (newest : Option ℕ) (n m : ℕ) → in_window (newest_with newest n) m ≡ true →
+pub inside-before : (newest : Option ℕ) (n m : ℕ) → in_window (newest_with newest n) m ≡ true →
     is_inside newest m ≡ false → IsBelow newest m → ⊥
 inside-before None n m new old below = below
 inside-before (Some k) n m new old below =
@@ -163,14 +165,16 @@ module _ (settings : Settings) (past : List Snapshot) (moment : ℕ) where
     inside-is None n h = absurd h
     inside-is (Some k) n h = order-window k n h.0 h.1
 
-module _ (codec : Meaning) (past : List Snapshot) (moment n : ℕ) (content : Content) where
+module _ (source : Source) (past : List Snapshot) (moment n : ℕ) (content : Content) where
   -- what was left after each event, once a datagram is taken
   abbrev taken : Snapshot
-  taken = after_datagram codec past moment (Ok (n, content))
+  taken = after_datagram source past moment (Ok (n, content))
 
   abbrev taken_settled : Snapshot
-  taken_settled = after_settling codec past
-      (record (moved (latest past) moment) { window = after_placing n content (latest past).window })
+  taken_settled = after_settling source.codec past (after_packet source n content (moved (latest past) moment))
+
+  abbrev placed : Contents Content
+  placed = after_placing n content (latest past).window
 
   abbrev new_newest : ℕ
   new_newest = newest_with (latest past).window.newest n
@@ -219,7 +223,8 @@ module _ (codec : Meaning) (past : List Snapshot) (moment n : ℕ) (content : Co
         ∙ ap (λ b. b && is_dead m (latest past).window.dead) h
         ∙ dead-before m h (cases_Bool (is_inside (latest past).window.newest m))
         ∙ sym (taken-lost-is m (window-order new_newest m h).0);
-    there = λ k h. newest-there k h (newest-either (latest past).window.newest n);
+    there = λ k h. made-available-stays source placed k
+        (newest-there k h (newest-either (latest past).window.newest n));
   } where
     first-upto : IsStarted (latest past).window → unwrap_or (latest past).window.first n ≤ new_newest
     first-upto (inl none) = let a : unwrap_or (latest past).window.first n ≡ n = ap (λ o. unwrap_or o n) none.0 in
@@ -261,11 +266,11 @@ module _ (codec : Meaning) (past : List Snapshot) (moment n : ℕ) (content : Co
 -- so it is after a datagram
 sane-datagram : (settings : Settings) (codec : Meaning) (past : List Snapshot) (moment : ℕ) (octets : List ℕ)
     (v : Result (ℕ × Content) NotTaken) → verdict settings codec (latest past).window octets ≡ v → IsSane past →
-    IsSane (after_datagram codec past moment v ∷ past)
+    IsSane (after_datagram (source_in settings codec) past moment v ∷ past)
 sane-datagram settings codec past moment octets (Err left) is sane =
     sane-still (moved (latest past) moment) past refl refl refl sane
 sane-datagram settings codec past moment octets (Ok (n, content)) is sane =
-    sane-taken codec past moment n content
+    sane-taken (source_in settings codec) past moment n content
     (fresh-is (latest past).window n (verdict-taken settings codec (latest past).window octets n content is).fresh)
     sane
 

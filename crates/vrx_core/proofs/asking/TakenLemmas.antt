@@ -1,28 +1,29 @@
 -- What is missing, asked for and given up once a datagram is taken.
 use Rattle.std.proofs.Common.{◌≡◌, ℕ, ◌+◌, ◌-◌, ◌<◌, ◌≤◌, ◌⊎◌, max, Bool, true, false, cond, not, ◌&&◌, ◌==◌, List, [], ◌∷◌, ◌++◌, map, length, filter, Contains, Option, Some, None, is_some, IsSomeAnd, unwrap_or, Ok, refl, sym, ◌∙◌, ap, subst, arith, inl, inr, nat_lt, nat_le, nat_cmp}
 use Rattle.std.specs.Ordering.{eq_by_cmp}
-use Rattle.std.proofs.lemmas.Bool.{and_parts, cases_lt, cases_eq, eqb-true, eqb-false, ne_eqb, false_from_ne_true, leb-true, lt-ltb, ltb-true, not-true, not_from_false, true≢false}
+use Rattle.std.proofs.lemmas.Bool.{and_parts, or_from, or_parts, cases_lt, cases_eq, eqb-true, eqb-false, ne_eqb, false_from_ne_true, leb-true, lt-ltb, ltb-true, not-true, not_from_false, true≢false}
 use Rattle.std.proofs.lemmas.List.{map-append}
 use Rattle.vrx_num.specs.declared.limits.TheConstants.{WINDOW}
 use Rattle.vrx_asks.specs.Asks.{beyond, without}
 use Rattle.vrx_asks.specs.declared.ask.Ask.{Ask}
-use Rattle.vrx_codec.specs.Meaning.{Meaning}
 use Rattle.vrx_window.specs.Content.{Content}
 use Rattle.vrx_window.specs.Window.{Contents, at, in_window, is_available, is_dead, is_inside, newest_with, after_placing, entries_with}
 use Rattle.vrx_frames.specs.Completed.{is_among}
 use Rattle.vrx_frames.specs.Run.{is_passed}
-use Rattle.vrx_core.specs.inside.Wants.{beyond_front, gap_from, gap_of, with_all_missing}
+use Rattle.vrx_repair.specs.Source.{Source}
+use Rattle.vrx_core.specs.inside.Wants.{beyond_front, gap_from, gap_of, with_all_missing, without_all}
 use Rattle.vrx_core.specs.machine.Asking.{IsMissing}
 use Rattle.vrx_core.specs.machine.Available.{IsInWindow}
 use Rattle.vrx_core.specs.machine.GivenUp.{is_lost, numbers_left}
-use Rattle.vrx_core.specs.machine.Machine.{Snapshot, latest, after_settling, after_datagram}
+use Rattle.vrx_core.specs.machine.Machine.{Snapshot, latest, after_settling, after_packet, after_datagram}
 use Rattle.vrx_core.specs.machine.Request.{missing, requests}
 use Rattle.vrx_core.specs.machine.Snapshot.{moved}
 use Rattle.vrx_core.specs.relation.StandsFor.{ask_of}
 use Rattle.vrx_core.proofs.machine.AvailableLemmas.{find-after_placing, placed_new, placed_old, order-window}
 use Rattle.vrx_core.proofs.machine.KeyLemmas.{same_key}
-use Rattle.vrx_core.proofs.relation.ListLemmas.{Rises, Contains-head, Contains-tail, all-of, all-in, filter-from, filter-to, filter-same, rises-filter, same-lists}
-use Rattle.vrx_core.proofs.asking.AskLemmas.{WasCounted, all-missing, ask-is, ask_from, beyond-front, beyond-number, first_ask, requests-more, requests-never, requests-none, without-number}
+use Rattle.vrx_core.proofs.relation.ListLemmas.{Rises, Contains-head, Contains-tail, all-of, all-in, filter-from, filter-map, filter-to, filter-same, rises-filter, same-lists}
+use Rattle.vrx_core.proofs.asking.AskLemmas.{WasCounted, all-missing, ask-is, ask_from, beyond-front, beyond-number, filter-append, first_ask, requests-more, requests-never, requests-none, without-all, without-number}
+use Rattle.vrx_core.proofs.asking.MadeLemmas.{made-available, made-inside, made_numbers}
 use Rattle.vrx_core.proofs.asking.MissingLemmas.{missing-from, missing-rises, missing-to}
 use Rattle.vrx_core.proofs.asking.RangeLemmas.{Leaves, among-from, among-to, append-from, append-left, append-right, below-bounds, below-rises, below-to, left-from, map-same}
 use Rattle.vrx_core.proofs.asking.SaneLemmas.{IsBelow, IsSane, IsStarted, available-there, below-with, some-value, taken-lost-is, taken-asked-missing, was_asked}
@@ -71,16 +72,22 @@ beyond-first : (first : Option ℕ) (n m : ℕ) → IsSomeAnd first (λ f. f < m
 beyond-first None n m h = absurd h
 beyond-first (Some f) n m h = h
 
-module _ (codec : Meaning) (past : List Snapshot) (moment n : ℕ) (content : Content) where
+module _ (source : Source) (past : List Snapshot) (moment n : ℕ) (content : Content) where
   abbrev win : Contents Content
   win = (latest past).window
 
   abbrev after : Snapshot
-  after = after_datagram codec past moment (Ok (n, content))
+  after = after_datagram source past moment (Ok (n, content))
 
   abbrev before_requests : Snapshot
-  before_requests = after_settling codec past
-      (record (moved (latest past) moment) { window = after_placing n content (latest past).window })
+  before_requests = after_settling source.codec past (after_packet source n content (moved (latest past) moment))
+
+  -- the window in which the packet is placed, and the numbers repaired
+  abbrev placed : Contents Content
+  placed = after_placing n content (latest past).window
+
+  abbrev repaired : List ℕ
+  repaired = made_numbers source placed
 
   abbrev top : ℕ
   top = newest_with (latest past).window.newest n
@@ -93,7 +100,7 @@ module _ (codec : Meaning) (past : List Snapshot) (moment n : ℕ) (content : Co
     inside = is.inside;
     absent = is.absent;
     not_passed = is.not_passed;
-    not_lost = taken-lost-is codec past moment n content m is.inside.0 ∙ is.not_lost;
+    not_lost = taken-lost-is source past moment n content m is.inside.0 ∙ is.not_lost;
   }
 
   missing-asks : (m : ℕ) → IsMissing (after ∷ past) m → IsMissing (before_requests ∷ past) m
@@ -103,7 +110,7 @@ module _ (codec : Meaning) (past : List Snapshot) (moment n : ℕ) (content : Co
     inside = is.inside;
     absent = is.absent;
     not_passed = is.not_passed;
-    not_lost = sym (taken-lost-is codec past moment n content m is.inside.0) ∙ is.not_lost;
+    not_lost = sym (taken-lost-is source past moment n content m is.inside.0) ∙ is.not_lost;
   }
 
   -- what stays available, and what doesn't become so
@@ -126,7 +133,20 @@ module _ (codec : Meaning) (past : List Snapshot) (moment n : ℕ) (content : Co
         by false is true = absent
         by false is false = refl
 
-  -- the missing numbers that are left: not this one, in the window, and not passed
+  -- what isn't available after the event wasn't, and wasn't repaired
+  absent-parts : (m : ℕ) → is_available m after.window.packets ≡ false →
+      (is_available m placed.packets ≡ false) × (is_among repaired m ≡ false)
+  absent-parts m absent =
+      or_parts (is_available m placed.packets) (is_among repaired m) (sym (made-available source placed m) ∙ absent)
+
+  -- and back
+  absent-both : (m : ℕ) → is_available m placed.packets ≡ false → is_among repaired m ≡ false →
+      is_available m after.window.packets ≡ false
+  absent-both m absent unrepaired =
+      made-available source placed m
+      ∙ or_from (is_available m placed.packets) (is_among repaired m) absent unrepaired
+
+  -- the missing numbers that are left: not this one, in the window, not passed, and not repaired
   abbrev others : List ℕ
   others = filter (λ m. not (m == n)) (missing past)
 
@@ -136,16 +156,26 @@ module _ (codec : Meaning) (past : List Snapshot) (moment n : ℕ) (content : Co
   abbrev pub missing_left : List ℕ
   missing_left = filter (λ m. not (is_passed after.front m)) others_inside
 
+  abbrev pub left_open : List ℕ
+  left_open = filter (λ m. not (is_among repaired m)) missing_left
+
+  -- and the gap without the numbers repaired
+  abbrev pub gap_open : List ℕ
+  gap_open = filter (λ m. not (is_among repaired m)) (gap_of (latest past).window.newest n)
+
   record IsLeft (m : ℕ) : Type 0 where
     was : IsMissing past m
     other : m ≡ n → ⊥
     within : top - WINDOW < m
     not_passed : is_passed after.front m ≡ false
+    not_repaired : is_among repaired m ≡ false
 
-  left-is : (m : ℕ) → Contains missing_left m → IsLeft m
+  left-is : (m : ℕ) → Contains left_open m → IsLeft m
   left-is m c =
+      let o : Contains missing_left m × (not (is_among repaired m) ≡ true) =
+      filter-from (λ k. not (is_among repaired k)) missing_left m c in
       let p : Contains others_inside m × (not (is_passed after.front m) ≡ true) =
-      filter-from (λ k. not (is_passed after.front k)) others_inside m c in
+      filter-from (λ k. not (is_passed after.front k)) others_inside m o.0 in
       let q : Contains others m × (nat_lt (top - WINDOW) m ≡ true) =
       filter-from (λ k. nat_lt (top - WINDOW) k) others m p.0 in
       let r : Contains (missing past) m × (not (m == n) ≡ true) =
@@ -155,20 +185,35 @@ module _ (codec : Meaning) (past : List Snapshot) (moment n : ℕ) (content : Co
         other = eqb-false m n (not-true (m == n) r.1);
         within = ltb-true (top - WINDOW) m q.1;
         not_passed = not-true (is_passed after.front m) p.1;
+        not_repaired = not-true (is_among repaired m) o.1;
       }
 
-  left-to : (m : ℕ) → IsLeft m → Contains missing_left m
-  left-to m is = filter-to (λ k. not (is_passed after.front k)) others_inside m
+  left-to : (m : ℕ) → IsLeft m → Contains left_open m
+  left-to m is = filter-to (λ k. not (is_among repaired k)) missing_left m
+      (filter-to (λ k. not (is_passed after.front k)) others_inside m
       (filter-to (λ k. nat_lt (top - WINDOW) k) others m
       (filter-to (λ k. not (k == n)) (missing past) m (missing-to past m is.was)
       (not_from_false (m == n) (ne_eqb m n is.other)))
       (lt-ltb (top - WINDOW) m is.within))
-      (not_from_false (is_passed after.front m) is.not_passed)
+      (not_from_false (is_passed after.front m) is.not_passed))
+      (not_from_false (is_among repaired m) is.not_repaired)
 
-  left-rises : Rises (λ m. m) missing_left
-  left-rises = rises-filter (λ m. m) (λ m. not (is_passed after.front m)) others_inside
+  left-rises : Rises (λ m. m) left_open
+  left-rises = rises-filter (λ m. m) (λ m. not (is_among repaired m)) missing_left
+      (rises-filter (λ m. m) (λ m. not (is_passed after.front m)) others_inside
       (rises-filter (λ m. m) (λ m. nat_lt (top - WINDOW) m) others
-      (rises-filter (λ m. m) (λ m. not (m == n)) (missing past) (missing-rises past)))
+      (rises-filter (λ m. m) (λ m. not (m == n)) (missing past) (missing-rises past))))
+
+  gap-open-rises : Rises (λ m. m) gap_open
+  gap-open-rises = rises-filter (λ m. m) (λ m. not (is_among repaired m)) (gap_of (latest past).window.newest n)
+      (gap-rises (latest past).window.newest n)
+
+  gap-open-from : (m : ℕ) → Contains gap_open m →
+      Contains (gap_of (latest past).window.newest n) m × (is_among repaired m ≡ false)
+  gap-open-from m c =
+      let p : Contains (gap_of (latest past).window.newest n) m × (not (is_among repaired m) ≡ true) =
+      filter-from (λ k. not (is_among repaired k)) (gap_of (latest past).window.newest n) m c in
+      (p.0, not-true (is_among repaired m) p.1)
 
   -- so the asks are those of these numbers
   asks-left : beyond_front after.front (beyond (top - WINDOW) (without n (map (ask_of past) (missing past)))) ≡ map
@@ -179,8 +224,9 @@ module _ (codec : Meaning) (past : List Snapshot) (moment n : ℕ) (content : Co
       ∙ beyond-front past others_inside after.front
 
   module _ (sane : IsSane past)
-      (same : (m : ℕ) → is_available m (after_placing n content (latest past).window).packets ≡ false →
-      is_passed (after_datagram codec past moment (Ok (n, content))).front m ≡ is_passed (latest past).front m)
+      (same : (m : ℕ) →
+      is_available m (after_datagram source past moment (Ok (n, content))).window.packets ≡ false →
+      is_passed (after_datagram source past moment (Ok (n, content))).front m ≡ is_passed (latest past).front m)
       (upto : (m : ℕ) → is_passed (latest past).front m ≡ true → IsSomeAnd (latest past).window.newest (λ k. m ≤ k))
       (held : (m : ℕ) → is_available m (latest past).window.packets ≡ true →
       IsInWindow (latest past).window.newest m) where
@@ -218,8 +264,11 @@ module _ (codec : Meaning) (past : List Snapshot) (moment n : ℕ) (content : Co
         omega (arith, a, b, c)
 
     -- what is missing after the event was missing before and is left, or lies in the gap
-    missing-split : (m : ℕ) → IsMissing (after ∷ past) m → IsLeft m ⊎ Contains (gap_of win.newest n) m
+    missing-split : (m : ℕ) → IsMissing (after ∷ past) m → IsLeft m ⊎ Contains gap_open m
     missing-split m is = by sane.started where
+      parts : (is_available m placed.packets ≡ false) × (is_among repaired m ≡ false)
+      parts = absent-parts m is.absent
+
       within : top < m + WINDOW
       within = is.inside.0
 
@@ -229,7 +278,7 @@ module _ (codec : Meaning) (past : List Snapshot) (moment n : ℕ) (content : Co
       beyond_it : unwrap_or win.first n < m
       beyond_it = is.after_first
 
-      by : IsStarted win → IsLeft m ⊎ Contains (gap_of win.newest n) m
+      by : IsStarted win → IsLeft m ⊎ Contains gap_open m
       by (inl none) =
           let a : unwrap_or win.first n ≡ n = ap (λ o. unwrap_or o n) none.0 in
           let b : top ≡ n = ap (λ o. newest_with o n) none.1 in
@@ -237,13 +286,15 @@ module _ (codec : Meaning) (past : List Snapshot) (moment n : ℕ) (content : Co
       by (inr p) =
           let b : top ≡ max p.1 n = ap (λ o. newest_with o n) p.3 in
           elim (cases_lt p.1 m) [
-            | inl above ↦ inr (gap-to win.newest n m
-                (subst (λ o. IsSomeAnd o (λ k. k < m)) (sym p.3) above) within below)
+            | inl above ↦ inr (filter-to (λ k. not (is_among repaired k)) (gap_of win.newest n) m
+                (gap-to win.newest n m (subst (λ o. IsSomeAnd o (λ k. k < m)) (sym p.3) above) within below)
+                (not_from_false (is_among repaired m) parts.1))
             | inr most ↦ inl (record {
               was = old most;
               other = other;
               within = omega (arith, within, below, beyond_it);
               not_passed = is.not_passed;
+              not_repaired = parts.1;
             })
           ] where
             inside_top : in_window top m ≡ true
@@ -251,11 +302,11 @@ module _ (codec : Meaning) (past : List Snapshot) (moment n : ℕ) (content : Co
 
             absent : is_available m win.packets ≡ false
             absent = false_from_ne_true (is_available m win.packets)
-                (λ there. true≢false (sym (available-stays m inside_top there) ∙ is.absent))
+                (λ there. true≢false (sym (available-stays m inside_top there) ∙ parts.0))
 
             other : m ≡ n → ⊥
             other e = true≢false (sym (ap is_some (placed_new top n content win.packets))
-                ∙ sym (ap (λ k. is_available k (entries_with top n content win.packets)) e) ∙ is.absent)
+                ∙ sym (ap (λ k. is_available k (entries_with top n content win.packets)) e) ∙ parts.0)
 
             not_newest : m ≡ p.1 → ⊥
             not_newest e =
@@ -276,7 +327,7 @@ module _ (codec : Meaning) (past : List Snapshot) (moment n : ℕ) (content : Co
                   inside = subst (λ o. IsInWindow o m) (sym p.3) (omega (arith, c, within), most);
                   absent = absent;
                   not_passed = sym (same m is.absent) ∙ is.not_passed;
-                  not_lost = sym (taken-lost-is codec past moment n content m within) ∙ is.not_lost;
+                  not_lost = sym (taken-lost-is source past moment n content m within) ∙ is.not_lost;
                 }
 
     -- what is left is missing
@@ -288,23 +339,26 @@ module _ (codec : Meaning) (past : List Snapshot) (moment n : ℕ) (content : Co
           after_first = beyond-first win.first n m is.was.after_first;
           before_newest = below;
           inside = (omega (arith, within), omega (arith, below));
-          absent = absent-stays m is.other is.was.absent;
+          absent = absent-both m (absent-stays m is.other is.was.absent) is.not_repaired;
           not_passed = is.not_passed;
-          not_lost = taken-lost-is codec past moment n content m (omega (arith, within)) ∙ is.was.not_lost;
+          not_lost = taken-lost-is source past moment n content m (omega (arith, within)) ∙ is.was.not_lost;
         }
 
-    -- and so is the gap
-    gap-missing : (m : ℕ) → Contains (gap_of win.newest n) m → IsMissing (after ∷ past) m
+    -- and so is the gap, but for the numbers repaired
+    gap-missing : (m : ℕ) → Contains gap_open m → IsMissing (after ∷ past) m
     gap-missing m c = record {
       after_first = omega (arith, first_below, k_below);
       before_newest = bounds.2;
       inside = (bounds.1, omega (arith, m_below));
       absent = absent;
       not_passed = same m absent ∙ above-not-passed newest.0 m newest.1 k_below;
-      not_lost = taken-lost-is codec past moment n content m bounds.1 ∙ above-not-lost newest.0 m newest.1 k_below;
+      not_lost = taken-lost-is source past moment n content m bounds.1 ∙ above-not-lost newest.0 m newest.1 k_below;
     } where
+      open_gap : Contains (gap_of win.newest n) m × (is_among repaired m ≡ false)
+      open_gap = gap-open-from m c
+
       bounds : IsSomeAnd win.newest (λ k. k < m) × (top < m + WINDOW) × (m < top)
-      bounds = gap-bounds win.newest n m c
+      bounds = gap-bounds win.newest n m open_gap.0
 
       newest : (k : ℕ) × (win.newest ≡ Some k) × (k < m)
       newest = some-value (λ k. k < m) win.newest bounds.0
@@ -321,44 +375,45 @@ module _ (codec : Meaning) (past : List Snapshot) (moment n : ℕ) (content : Co
       top_is : top ≡ max newest.0 n
       top_is = ap (λ o. newest_with o n) newest.1
 
-      absent : is_available m (entries_with top n content win.packets) ≡ false
-      absent = absent-stays m (λ e. absurd (omega (arith, e, k_below, m_below, top_is)))
-          (above-absent newest.0 m newest.1 k_below)
+      absent : is_available m after.window.packets ≡ false
+      absent = absent-both m (absent-stays m (λ e. absurd (omega (arith, e, k_below, m_below, top_is)))
+          (above-absent newest.0 m newest.1 k_below)) open_gap.1
 
-    -- so the missing numbers are those left, and the gap
-    pub missing-is : missing (after ∷ past) ≡ missing_left ++ gap_of win.newest n
-    missing-is = same-lists (λ m. m) (missing (after ∷ past)) (missing_left ++ gap_of win.newest n)
+    -- so the missing numbers are those left, and the gap without the numbers repaired
+    pub missing-is : missing (after ∷ past) ≡ left_open ++ gap_open
+    missing-is = same-lists (λ m. m) (missing (after ∷ past)) (left_open ++ gap_open)
         (missing-rises (after ∷ past))
-        (rises-append missing_left (gap_of win.newest n) left-rises (gap-rises win.newest n) apart) to back where
-          apart : (x y : ℕ) → Contains missing_left x → Contains (gap_of win.newest n) y → x < y
+        (rises-append left_open gap_open left-rises gap-open-rises apart) to back where
+          apart : (x y : ℕ) → Contains left_open x → Contains gap_open y → x < y
           apart x y c d =
               let a : (k : ℕ) × (win.newest ≡ Some k) × (x < k) =
               some-value (λ k. x < k) win.newest (left-is x c).was.before_newest in
-              let b : a.0 < y = subst (λ o. IsSomeAnd o (λ k. k < y)) a.1 (gap-bounds win.newest n y d).0 in
+              let b : a.0 < y = subst (λ o. IsSomeAnd o (λ k. k < y)) a.1
+              (gap-bounds win.newest n y (gap-open-from y d).0).0 in
               let e : x < a.0 = a.2 in
               omega (arith, b, e)
 
-          to : (m : ℕ) → Contains (missing (after ∷ past)) m → Contains (missing_left ++ gap_of win.newest n) m
+          to : (m : ℕ) → Contains (missing (after ∷ past)) m → Contains (left_open ++ gap_open) m
           to m c = elim (missing-split m (missing-from (after ∷ past) m c)) [
-            | inl left ↦ append-left missing_left (gap_of win.newest n) m (left-to m left)
-            | inr gap ↦ append-right missing_left (gap_of win.newest n) m gap
+            | inl left ↦ append-left left_open gap_open m (left-to m left)
+            | inr gap ↦ append-right left_open gap_open m gap
           ]
 
-          back : (m : ℕ) → Contains (missing_left ++ gap_of win.newest n) m → Contains (missing (after ∷ past)) m
-          back m c = missing-to (after ∷ past) m (elim (append-from missing_left (gap_of win.newest n) m c) [
+          back : (m : ℕ) → Contains (left_open ++ gap_open) m → Contains (missing (after ∷ past)) m
+          back m c = missing-to (after ∷ past) m (elim (append-from left_open gap_open m c) [
             | inl left ↦ left-missing m (left-is m left)
             | inr gap ↦ gap-missing m gap
           ])
 
     -- no number of the gap was asked for
-    gap-never : (m : ℕ) → Contains (gap_of win.newest n) m → requests past m ≡ []
+    gap-never : (m : ℕ) → Contains gap_open m → requests past m ≡ []
     gap-never m c =
         let k : (k : ℕ) × (win.newest ≡ Some k) × (k < m) =
-        some-value (λ j. j < m) win.newest (gap-bounds win.newest n m c).0 in
+        some-value (λ j. j < m) win.newest (gap-bounds win.newest n m (gap-open-from m c).0).0 in
         requests-never past m (above-not-asked k.0 m k.1 k.2)
 
-    -- each is asked for now
-    gap-asked : (m : ℕ) → Contains (gap_of win.newest n) m → Contains after.asked m
+    -- each that wasn't repaired is asked for now
+    gap-asked : (m : ℕ) → Contains gap_open m → Contains after.asked m
     gap-asked m c = filter-to (λ k. length (requests (before_requests ∷ past) k) == 0)
         (missing (before_requests ∷ past)) m
         (missing-to (before_requests ∷ past) m (missing-asks m (gap-missing m c)))
@@ -375,45 +430,63 @@ module _ (codec : Meaning) (past : List Snapshot) (moment n : ℕ) (content : Co
           let once : 1 ≤ length (requests past m) = (counted m (missing-to past m left.was)).once in
           omega (arith, zero_is, once)
 
-      -- what is asked for is the gap
-      pub gap-is-asked : gap_of win.newest n ≡ after.asked
-      gap-is-asked = same-lists (λ m. m) (gap_of win.newest n) after.asked (gap-rises win.newest n)
+      -- what is asked for is the gap, but for the numbers repaired
+      pub gap-is-asked : gap_open ≡ after.asked
+      gap-is-asked = same-lists (λ m. m) gap_open after.asked gap-open-rises
           (rises-filter (λ m. m) (λ k. length (requests (before_requests ∷ past) k) == 0)
           (missing (before_requests ∷ past)) (missing-rises (before_requests ∷ past))) gap-asked back where
-            back : (m : ℕ) → Contains after.asked m → Contains (gap_of win.newest n) m
+            back : (m : ℕ) → Contains after.asked m → Contains gap_open m
             back m c = elim (missing-split m
-                (missing-asked m (taken-asked-missing codec past moment n content m (among-to after.asked m c)))) [
+                (missing-asked m (taken-asked-missing source past moment n content m (among-to after.asked m c)))) [
                   | inl left ↦ absurd (asked-never m c left)
                   | inr gap ↦ gap
                 ]
 
-      left-same : (m : ℕ) → Contains missing_left m → ask_of past m ≡ ask_of (after ∷ past) m
+      left-same : (m : ℕ) → Contains left_open m → ask_of past m ≡ ask_of (after ∷ past) m
       left-same m c =
           let none : is_among after.asked m ≡ false =
           false_from_ne_true (is_among after.asked m)
           (λ is. asked-never m (among-from after.asked m is) (left-is m c)) in
           ask-is past m ∙ ap (ask_from m) (sym (requests-none after past m none)) ∙ sym (ask-is (after ∷ past) m)
 
-      gap-first : (m : ℕ) → Contains (gap_of win.newest n) m →
+      gap-first : (m : ℕ) → Contains gap_open m →
           first_ask (max (latest past).now moment) m ≡ ask_of (after ∷ past) m
       gap-first m c =
           ap (λ (ms : List ℕ). ask_from m (max (latest past).now moment ∷ ms)) (sym (gap-never m c))
           ∙ ap (ask_from m) (sym (requests-more after past m (among-to after.asked m (gap-asked m c))))
           ∙ sym (ask-is (after ∷ past) m)
 
-      -- the asks after a packet was taken
-      pub asks-are : with_all_missing (max (latest past).now moment) (gap_of win.newest n)
-          (beyond_front after.front (beyond (top - WINDOW) (without n (map (ask_of past) (missing past))))) ≡ map
+      -- the asks before the numbers repaired are taken away
+      abbrev now : ℕ
+      now = max (latest past).now moment
+
+      abbrev unrepaired : Ask → Bool
+      unrepaired ask = not (is_among repaired ask.number)
+
+      asks-open : without_all repaired (map (ask_of past) missing_left ++ map (first_ask now) (gap_of win.newest n))
+          ≡ map (ask_of past) left_open ++ map (first_ask now) gap_open
+      asks-open =
+          without-all repaired (map (ask_of past) missing_left ++ map (first_ask now) (gap_of win.newest n))
+          ∙ filter-append unrepaired (map (ask_of past) missing_left) (map (first_ask now) (gap_of win.newest n))
+          ∙ ap (λ (asks : List Ask). asks ++ filter unrepaired (map (first_ask now) (gap_of win.newest n)))
+          (filter-map (ask_of past) unrepaired missing_left)
+          ∙ ap (λ (asks : List Ask). map (ask_of past) left_open ++ asks)
+          (filter-map (first_ask now) unrepaired (gap_of win.newest n))
+
+      -- the asks after a packet was taken, and its repairs were made
+      pub asks-are : without_all (made_numbers source (after_placing n content (latest past).window))
+          (with_all_missing (max (latest past).now moment) (gap_of win.newest n)
+          (beyond_front after.front (beyond (top - WINDOW) (without n (map (ask_of past) (missing past)))))) ≡ map
           (ask_of (after ∷ past)) (missing (after ∷ past))
       asks-are =
-          ap (with_all_missing (max (latest past).now moment) (gap_of win.newest n)) asks-left
-          ∙ all-missing (max (latest past).now moment) (gap_of win.newest n) (map (ask_of past) missing_left)
-          ∙ ap (λ (asks : List Ask). asks ++ map (first_ask (max (latest past).now moment)) (gap_of win.newest n))
-          (map-same (ask_of past) (ask_of (after ∷ past)) missing_left left-same)
-          ∙ ap (λ (asks : List Ask). map (ask_of (after ∷ past)) missing_left ++ asks)
-          (map-same (first_ask (max (latest past).now moment)) (ask_of (after ∷ past))
-          (gap_of win.newest n) gap-first)
-          ∙ sym (map-append (ask_of (after ∷ past)) missing_left (gap_of win.newest n))
+          ap (λ (asks : List Ask). without_all repaired (with_all_missing now (gap_of win.newest n) asks)) asks-left
+          ∙ ap (without_all repaired) (all-missing now (gap_of win.newest n) (map (ask_of past) missing_left))
+          ∙ asks-open
+          ∙ ap (λ (asks : List Ask). asks ++ map (first_ask now) gap_open)
+          (map-same (ask_of past) (ask_of (after ∷ past)) left_open left-same)
+          ∙ ap (λ (asks : List Ask). map (ask_of (after ∷ past)) left_open ++ asks)
+          (map-same (first_ask now) (ask_of (after ∷ past)) gap_open gap-first)
+          ∙ sym (map-append (ask_of (after ∷ past)) left_open gap_open)
           ∙ ap (map (ask_of (after ∷ past))) (sym missing-is)
 
     -- the numbers given up, as the window says them
@@ -443,14 +516,21 @@ module _ (codec : Meaning) (past : List Snapshot) (moment n : ℕ) (content : Co
               absurd (omega (arith, is_left, p))
           not_inside false is = refl
 
-          absent : is_available m (entries_with top n content win.packets) ≡ false
-          absent = ap is_some (find-after_placing top n m content win.packets) ∙ by (eq_by_cmp nat_cmp m n) refl
+          gone : is_among repaired m ≡ false
+          gone = false_from_ne_true (is_among repaired m)
+              (λ among. true≢false (sym (made-inside source placed m among) ∙ not_inside (in_window top m) refl))
+
+          absent_placed : is_available m (entries_with top n content win.packets) ≡ false
+          absent_placed = ap is_some (find-after_placing top n m content win.packets) ∙ by (eq_by_cmp nat_cmp m n) refl
               ∙ ap (λ b. is_some (cond b (at m win.packets) None)) (not_inside (in_window top m) refl) where
                 by : (b : Bool) → eq_by_cmp nat_cmp m n ≡ b →
                     is_some (cond b (Some content) (cond (in_window top m) (at m win.packets) None)) ≡ is_some
                     (cond (in_window top m) (at m win.packets) None)
                 by true is = let e : m ≡ n = same_key m n is in absurd (omega (arith, e, is_left, top_is, inside_k))
                 by false is = refl
+
+          absent : is_available m after.window.packets ≡ false
+          absent = absent-both m absent_placed gone
 
           above_inside : newest.0 < m → is_inside win.newest m ≡ true → ⊥
           above_inside above is = let p : m ≤ newest.0 =

@@ -12,12 +12,13 @@ use Rattle.vrx_window.specs.Content.{Content}
 use Rattle.vrx_window.specs.Window.{is_available, is_dead, newest_with}
 use Rattle.vrx_frames.specs.Completed.{is_among}
 use Rattle.vrx_frames.specs.Run.{Run, is_passed}
-use Rattle.vrx_core.specs.inside.Wants.{asks_taken, beyond_front, gap_of, last_of, later_of, lost_ticked, with_all_missing}
+use Rattle.vrx_repair.specs.Source.{Source}
+use Rattle.vrx_core.specs.inside.Wants.{asks_for, asks_taken, beyond_front, gap_of, last_of, later_of, lost_ticked, with_all_missing, without_all}
 use Rattle.vrx_core.specs.machine.GivenUp.{all_lost, is_lost, numbers_left}
-use Rattle.vrx_core.specs.machine.Machine.{Snapshot, latest, opening, after_datagram, after_pull, after_tick, snapshots}
+use Rattle.vrx_core.specs.machine.Machine.{Snapshot, latest, opening, after_datagram, after_pull, after_tick, snapshots, source_in}
 use Rattle.vrx_core.specs.machine.Request.{is_missing, is_old, missing, numbers_between, requests}
 use Rattle.vrx_core.specs.machine.Snapshot.{moved}
-use Rattle.vrx_core.specs.relation.Order.{greatest_of}
+use Rattle.vrx_buffer.specs.Order.{greatest_of}
 use Rattle.vrx_core.specs.relation.StandsFor.{Wanted, ask_of}
 use Rattle.vrx_core.specs.declared.assembler.Arrival.{Arrival}
 use Rattle.vrx_core.specs.declared.settings.Settings.{Settings}
@@ -252,39 +253,52 @@ asks_by now newest n front asks =
     with_all_missing now (gap_of newest n)
     (beyond_front front (beyond (newest_with newest n - WINDOW) (without n asks)))
 
+-- the numbers of the gap that aren't among others
+abbrev gap_but : List ℕ → Option ℕ → ℕ → List ℕ
+gap_but ns newest n = filter (λ m. not (is_among ns m)) (gap_of newest n)
+
 module _ (settings : Settings) (codec : Meaning) (h : List Event) (moment n : ℕ) (content : Content)
     (arrival : Arrival)
     (number_is : arrival.number ≡ n)
-    (newest_is : arrival.newest ≡ (latest (snapshots settings codec h)).window.newest) where
+    (newest_is : arrival.newest ≡ (latest (snapshots settings codec h)).window.newest)
+    (repaired_is : arrival.repaired ≡ (after_datagram (source_in settings codec) (snapshots settings codec h) moment
+    (Ok (n, content))).repaired) where
   abbrev past : List Snapshot
   past = snapshots settings codec h
+
+  abbrev source : Source
+  source = source_in settings codec
 
   module _ (asks : List Ask)
       (is : asks ≡ map (ask_of (snapshots settings codec h)) (missing (snapshots settings codec h)))
       (sound : IsAsks asks) where
     -- the asks once a packet was taken
     pub asks-taken : asks_taken (max (latest (snapshots settings codec h)).now moment) arrival
-        (after_datagram codec (snapshots settings codec h) moment (Ok (n, content))).front asks
-        ≡ map (ask_of (after_datagram codec (snapshots settings codec h) moment (Ok (n, content))
+        (after_datagram (source_in settings codec) (snapshots settings codec h) moment (Ok (n, content))).front asks
+        ≡ map (ask_of (after_datagram (source_in settings codec) (snapshots settings codec h) moment (Ok (n, content))
         ∷ snapshots settings codec h))
-        (missing (after_datagram codec (snapshots settings codec h) moment (Ok (n, content))
+        (missing (after_datagram (source_in settings codec) (snapshots settings codec h) moment (Ok (n, content))
         ∷ snapshots settings codec h))
     asks-taken =
         let now : ℕ = max (latest past).now moment in
-        let front : Option ℕ = (after_datagram codec past moment (Ok (n, content))).front in
-        ap (λ k. asks_by now arrival.newest k front asks) number_is
-        ∙ ap (λ o. asks_by now o n front asks) newest_is
-        ∙ ap (asks_by now (latest past).window.newest n front) is
-        ∙ asks-are codec past moment n content (sane settings codec h) (passed-same settings codec h moment n content)
+        let front : Option ℕ = (after_datagram source past moment (Ok (n, content))).front in
+        let repaired : List ℕ = (after_datagram source past moment (Ok (n, content))).repaired in
+        ap (λ ns. without_all ns (asks_by now arrival.newest arrival.number front asks)) repaired_is
+        ∙ ap (λ k. without_all repaired (asks_by now arrival.newest k front asks)) number_is
+        ∙ ap (λ o. without_all repaired (asks_by now o n front asks)) newest_is
+        ∙ ap (λ (list : List Ask). without_all repaired (asks_by now (latest past).window.newest n front list)) is
+        ∙ asks-are source past moment n content (sane settings codec h) (passed-same settings codec h moment n content)
         (passed-below settings codec h) (available-within settings codec h) (counted-of past asks is sound)
 
-    -- what it asks for is the gap
-    pub gap-taken : gap_of arrival.newest arrival.number
-        ≡ (after_datagram codec (snapshots settings codec h) moment (Ok (n, content))).asked
+    -- what it asks for is the gap, but for the numbers repaired
+    pub gap-taken : asks_for arrival
+        ≡ (after_datagram (source_in settings codec) (snapshots settings codec h) moment (Ok (n, content))).asked
     gap-taken =
-        ap (gap_of arrival.newest) number_is
-        ∙ ap (λ o. gap_of o n) newest_is
-        ∙ gap-is-asked codec past moment n content (sane settings codec h)
+        let repaired : List ℕ = (after_datagram source past moment (Ok (n, content))).repaired in
+        ap (λ (ns : List ℕ). gap_but ns arrival.newest arrival.number) repaired_is
+        ∙ ap (gap_but repaired arrival.newest) number_is
+        ∙ ap (λ o. gap_but repaired o n) newest_is
+        ∙ gap-is-asked source past moment n content (sane settings codec h)
         (passed-same settings codec h moment n content) (passed-below settings codec h)
         (available-within settings codec h) (counted-of past asks is sound)
 
@@ -296,17 +310,17 @@ module _ (settings : Settings) (codec : Meaning) (h : List Event) (moment n : �
       (Some (newest_with (latest (snapshots settings codec h)).window.newest n))))) where
     -- the greatest number that it gives up
     pub lost-arrived : arrival.lost ≡ greatest_of
-        (after_datagram codec (snapshots settings codec h) moment (Ok (n, content))).lost
+        (after_datagram (source_in settings codec) (snapshots settings codec h) moment (Ok (n, content))).lost
     lost-arrived = lost_is ∙ ap greatest_of
-        (lost-is codec past moment n content (sane settings codec h) (passed-same settings codec h moment n content)
+        (lost-is source past moment n content (sane settings codec h) (passed-same settings codec h moment n content)
         (passed-below settings codec h) (available-within settings codec h))
 
     -- and that was given up so far
     pub lost-taken : (lost : Option ℕ) → lost ≡ greatest_of (all_lost (snapshots settings codec h))
         → later_of arrival.lost lost ≡ greatest_of
-        (all_lost (after_datagram codec (snapshots settings codec h) moment (Ok (n, content))
+        (all_lost (after_datagram (source_in settings codec) (snapshots settings codec h) moment (Ok (n, content))
         ∷ snapshots settings codec h))
     lost-taken lost is =
         ap (λ o. later_of o lost) lost-arrived
-        ∙ ap (later_of (greatest_of (after_datagram codec past moment (Ok (n, content))).lost)) is
-        ∙ sym (greatest-append (after_datagram codec past moment (Ok (n, content))).lost (all_lost past))
+        ∙ ap (later_of (greatest_of (after_datagram source past moment (Ok (n, content))).lost)) is
+        ∙ sym (greatest-append (after_datagram source past moment (Ok (n, content))).lost (all_lost past))

@@ -15,7 +15,7 @@ use Rattle.vrx_window.specs.Window.{at, is_available}
 use Rattle.vrx_frames.specs.Run.{Packets, begins, ends_frame, stands_after_end}
 use Rattle.vrx_core.specs.machine.Standing.{began_after_end}
 use Rattle.vrx_core.specs.machine.Machine.{Snapshot, times}
-use Rattle.vrx_core.specs.honest.Sender.{SentFrame, SentPacket, Media, Empty, Sender, IsOf}
+use Rattle.vrx_core.specs.honest.Sender.{SentFrame, SentPacket, Media, Fec, Empty, Sender, IsNoPart, IsOf}
 use Rattle.vrx_core.specs.honest.WireForm.{content_sent}
 use Rattle.vrx_core.specs.honest.HonestSender.{CarriedPart, SaysRightly, IsPart, Travels, HonestSender}
 use Rattle.vrx_core.specs.honest.Ready.{IsNumber, SaysStart, WereBeside}
@@ -24,7 +24,7 @@ use Rattle.vrx_core.proofs.machine.MemberLemmas.{Contains-either, Contains-empty
 use Rattle.vrx_core.proofs.machine.TestLemmas.{list_any-to}
 use Rattle.vrx_core.proofs.honest.KeepsLemmas.{one-place}
 use Rattle.vrx_core.proofs.honest.KeptLemmas.{AreKept, kept-there}
-use Rattle.vrx_core.proofs.honest.PartLemmas.{IsSent, packet_sent, frame_spans, frame_travels, text_sent, size, some_there, some_holds}
+use Rattle.vrx_core.proofs.honest.PartLemmas.{IsSent, packet_sent, frame_spans, frame_travels, part-of, text_sent, size, some_there, some_holds, some_from}
 use Rattle.vrx_core.proofs.honest.FrameLemmas.{number_later, same_ok}
 use Rattle.vrx_core.proofs.honest.TookLemmas.{WereKept}
 
@@ -87,17 +87,19 @@ module _ (settings : Settings) (codec : Meaning) (sender : Sender) (honest : Hon
         ]
       ]
 
-  -- a packet after an empty packet is the first of its frame
-  pub after_empty : (j i : ℕ) → slice_get sender.packets j ≡ Some Empty → j + 1 ≡ i →
+  -- a packet after one that is no part is the first of its frame
+  pub after_other : (j i : ℕ) → IsSomeAnd (slice_get sender.packets j) IsNoPart → j + 1 ≡ i →
       (s : IsSent settings codec sender honest i) → s.k ≡ 0
-  after_empty j i empty next s = by_part s.k refl where
+  after_other j i other next s = by_part s.k refl where
     by_part : (k : ℕ) → s.k ≡ k → s.k ≡ 0
     by_part zero is = is
     by_part (suc k) is =
         let here : honest.place s.f + s.k ≡ i = s.here in
         let within : s.k < size settings codec sender honest s.f = s.within in
-        absurd (some_holds (IsOf s.f) (slice_get sender.packets j) Empty empty
-        (((frame_spans settings codec sender honest s.f s.frame s.sent).exactly j).1 (omega arith, omega arith)))
+        let p : (packet : SentPacket) × (slice_get sender.packets j ≡ Some packet) × IsNoPart packet =
+        some_there IsNoPart (slice_get sender.packets j) other in
+        absurd (part-of s.f p.0 p.2 (some_holds (IsOf s.f) (slice_get sender.packets j) p.0 p.1
+        (((frame_spans settings codec sender honest s.f s.frame s.sent).exactly j).1 (omega arith, omega arith))))
 
   -- what a media packet says of the end of its frame
   ends-is : (j f k : ℕ) (text : List ℕ) (t : IsSent settings codec sender honest j) →
@@ -118,7 +120,10 @@ module _ (settings : Settings) (codec : Meaning) (sender : Sender) (honest : Hon
       t.part.marker.0 (sym (ends-is j f k text t there) ∙ ends) in
       let here : honest.place t.f + t.k ≡ j = t.here in
       behind_last i t.f t.frame t.sent (omega arith) s
-  ends_first j i Empty there ends next s = after_empty j i there (sym next) s
+  ends_first j i (Fec payload) there ends next s =
+      after_other j i (some_from IsNoPart (slice_get sender.packets j) (Fec payload) there tt) (sym next) s
+  ends_first j i Empty there ends next s =
+      after_other j i (some_from IsNoPart (slice_get sender.packets j) Empty there tt) (sym next) s
 
   -- the packet before the first of a frame ends one
   first_ends : (j f : ℕ) (frame : SentFrame) (packet : SentPacket) → slice_get sender.frames f ≡ Some frame →
@@ -127,6 +132,7 @@ module _ (settings : Settings) (codec : Meaning) (sender : Sender) (honest : Hon
       let t : IsSent settings codec sender honest j =
       packet_sent settings codec sender honest j (Media g k text) there tt in
       ends-is j g k text t there ∙ t.part.marker.1 (before_first j f frame is next t)
+  first_ends j f frame (Fec payload) is there next = refl
   first_ends j f frame Empty is there next = refl
 
   -- what stands under a number is a packet of the sender

@@ -13,6 +13,7 @@ use Rattle.vrx_wrap.specs.Rtx.{original_of as rtx_original}
 use Rattle.vrx_wrap.specs.declared.red.RedFault.{RedFault}
 use Rattle.vrx_core.specs.machine.SettingsFault.{is_bad_type, fault_of}
 use Rattle.vrx_core.specs.machine.Text.{without_padding}
+use Rattle.vrx_core.specs.machine.Original as originals
 use Rattle.vrx_core.specs.machine.Original.{apt_of, red_pair, is_red_type, rtx_reason, original_from, media_packet, as_media, from_block, out_of_red}
 use Rattle.vrx_core.specs.honest.WireForm.{Wrapping, Plain, InRed, Again, RedAgain, TravelsAs}
 use Rattle.vrx_core.specs.declared.settings.Red.{Red}
@@ -36,12 +37,12 @@ typed_same apt w (Some pt) = with_same apt w pt (number_at w.payload)
 
 module _ (settings : Settings) where
   -- the type of RED
-  is_red : (red : Red) (pt : ℕ) → settings.red ≡ Some red → pt ≡ red.red_type → is_red_type settings pt ≡ true
+  pub is_red : (red : Red) (pt : ℕ) → settings.red ≡ Some red → pt ≡ red.red_type → is_red_type settings pt ≡ true
   is_red red pt given same = ap (λ (o : Option Red). option_map_or (λ red. red.red_type == pt) o false) given
       ∙ eq-eqb red.red_type pt (sym same)
 
   -- a packet of the media source is the media packet
-  direct : (w : Packet) → w.ssrc ≡ settings.media_ssrc →
+  pub direct : (w : Packet) → w.ssrc ≡ settings.media_ssrc →
       ((w.pt == settings.media_type) || is_red_type settings w.pt) ≡ true → media_packet settings w ≡ Ok w
   direct w source type =
       ap (λ b.
@@ -50,7 +51,7 @@ module _ (settings : Settings) where
       ∙ ap (λ b. if b then Ok w else Err OtherType) type
 
   -- so is the original of a retransmission
-  again : (good : fault_of settings ≡ None) (rtx : Rtx) (w sent : Packet) → settings.rtx ≡ Some rtx →
+  pub again : (good : fault_of settings ≡ None) (rtx : Rtx) (w sent : Packet) → settings.rtx ≡ Some rtx →
       w.ssrc ≡ rtx.ssrc → rtx_original (apt_of settings rtx) w ≡ Ok sent → media_packet settings w ≡ Ok sent
   again good rtx w sent given source is =
       ap (λ b.
@@ -63,10 +64,37 @@ module _ (settings : Settings) where
       else Err OtherSsrc) (eq-eqb w.ssrc rtx.ssrc source)
       ∙ ap (result_map_both (λ (p : Packet). p) rtx_reason) is
 
+  -- the original of a retransmission of a packet, whatever the padding
+  pub original_again : ReadsRtxAgain → (rtx : Rtx) (rtx_type n : ℕ) (q w : Packet) →
+      without_padding w ≡ rtx_of rtx_type rtx.ssrc n q → q.seq < 2 ^ 16 → q.ssrc ≡ settings.media_ssrc →
+      original_type (apt_of settings rtx) rtx_type ≡ Some q.pt
+      → rtx_original (apt_of settings rtx) w ≡ Ok (unpadded_packet q)
+  original_again law rtx rtx_type n q w e small from is =
+      typed_same (apt_of settings rtx) w (original_type (apt_of settings rtx) w.pt)
+      ∙ ap (rtx_original (apt_of settings rtx)) e
+      ∙ law (apt_of settings rtx) rtx_type rtx.ssrc n q small (record { type_of = is; source = sym from })
+
+  -- the type of the original of a retransmission in RED
+  pub red_again-type : (fine : fault_of settings ≡ None) (red : Red) (rtx : Rtx) (rtx_type : ℕ) →
+      settings.red ≡ Some red → settings.rtx ≡ Some rtx → rtx.red_rtx_type ≡ Some rtx_type →
+      original_type (apt_of settings rtx) rtx_type ≡ Some red.red_type
+  red_again-type fine red rtx rtx_type given_red given has =
+      ap (λ b. option_map (λ (pair : ℕ × ℕ). pair.1)
+      (if b then Some (rtx.media_rtx_type, settings.media_type)
+      else find (λ (pair : ℕ × ℕ). pair.0 == rtx_type) (red_pair rtx.red_rtx_type settings.red)))
+      (ne_eqb rtx.media_rtx_type rtx_type (λ e'. red_rtx-apart settings fine rtx rtx_type given has (sym e')))
+      ∙ ap (λ o. option_map (λ (pair : ℕ × ℕ). pair.1)
+      (find (λ (pair : ℕ × ℕ). pair.0 == rtx_type) (red_pair o settings.red))) has
+      ∙ ap (λ o. option_map (λ (pair : ℕ × ℕ). pair.1)
+      (find (λ (pair : ℕ × ℕ). pair.0 == rtx_type) (red_pair (Some rtx_type) o))) given_red
+      ∙ ap (λ b. option_map (λ (pair : ℕ × ℕ). pair.1)
+      (if b then Some (rtx_type, red.red_type) else None)) (eq-eqb rtx_type rtx_type refl)
+
   -- what a packet in RED brings, by its block
-  red_out : (w : Packet) (r : Result Block RedFault) → is_red_type settings w.pt ≡ true → block_of w.payload ≡ r →
+  pub red_out : (w : Packet) (r : Result Block RedFault) → is_red_type settings w.pt ≡ true → block_of w.payload ≡ r →
       out_of_red settings w ≡ from_block settings w r
-  red_out w r red is = ap (λ b. if b then from_block settings w (block_of w.payload) else Ok w) red
+  red_out w r red is =
+      ap (λ b. if b then from_block settings w (block_of w.payload) else Ok (originals.Plain w)) red
       ∙ ap (from_block settings w) is
 
 -- out of this packet comes a packet of the stream, padding aside: its type isn't one that RTCP takes, and it is that
@@ -76,16 +104,17 @@ pub record BringsOut (settings : Settings) (p w : Packet) : Type 0 where
   pub sent : Packet
   pub media : media_packet settings w ≡ Ok sent
   pub plain : Packet
-  pub out : out_of_red settings sent ≡ Ok plain
+  pub out : out_of_red settings sent ≡ Ok (originals.Plain plain)
   pub same : without_padding plain ≡ without_padding p
 
 module _ (law : ReadsRtxAgain) (settings : Settings) (fine : fault_of settings ≡ None) (p : Packet)
     (type : p.pt ≡ settings.media_type) (source : p.ssrc ≡ settings.media_ssrc) (number : p.seq < 2 ^ 16)
     (into : ℕ → Packet → Packet) (red_is : IsIntoRed settings into p) where
   -- a media packet isn't in RED
-  plain_out : (w : Packet) → w.pt ≡ settings.media_type → out_of_red settings w ≡ Ok w
+  plain_out : (w : Packet) → w.pt ≡ settings.media_type → out_of_red settings w ≡ Ok (originals.Plain w)
   plain_out w media =
-      ap (λ b. if b then from_block settings w (block_of w.payload) else Ok w) (no_red settings.red refl) where
+      ap (λ b. if b then from_block settings w (block_of w.payload) else Ok (originals.Plain w))
+      (no_red settings.red refl) where
         no_red : (o : Option Red) → settings.red ≡ o → option_map_or (λ red. red.red_type == w.pt) o false ≡ false
         no_red None given = refl
         no_red (Some red) given =
@@ -94,7 +123,7 @@ module _ (law : ReadsRtxAgain) (settings : Settings) (fine : fault_of settings �
   -- out of RED comes the packet
   red_plain : (red : Red) (w : Packet) → settings.red ≡ Some red →
       without_padding w ≡ without_padding (into red.red_type p) →
-      out_of_red settings w ≡ Ok (as_media settings w p.payload)
+      out_of_red settings w ≡ Ok (originals.Plain (as_media settings w p.payload))
   red_plain red w given e =
       red_out settings w (block_of w.payload)
       (is_red settings red w.pt given (ap (λ (q : Packet). q.pt) e ∙ red_is.type red.red_type)) refl
@@ -132,16 +161,6 @@ module _ (law : ReadsRtxAgain) (settings : Settings) (fine : fault_of settings �
         same = red_is.same red.red_type w e';
       }
 
-  -- the original of a retransmission of a packet, whatever the padding
-  original_again : (rtx : Rtx) (rtx_type n : ℕ) (q w : Packet) → without_padding w ≡ rtx_of rtx_type rtx.ssrc n q →
-      q.seq < 2 ^ 16 → q.ssrc ≡ settings.media_ssrc →
-      original_type (apt_of settings rtx) rtx_type ≡ Some q.pt
-      → rtx_original (apt_of settings rtx) w ≡ Ok (unpadded_packet q)
-  original_again rtx rtx_type n q w e small from is =
-      typed_same (apt_of settings rtx) w (original_type (apt_of settings rtx) w.pt)
-      ∙ ap (rtx_original (apt_of settings rtx)) e
-      ∙ law (apt_of settings rtx) rtx_type rtx.ssrc n q small (record { type_of = is; source = sym from })
-
   -- the packet sent again
   sent_again : (rtx : Rtx) (n : ℕ) (w : Packet) → settings.rtx ≡ Some rtx →
       without_padding w ≡ rtx_of rtx.media_rtx_type rtx.ssrc n p → BringsOut settings p w
@@ -149,7 +168,7 @@ module _ (law : ReadsRtxAgain) (settings : Settings) (fine : fault_of settings �
     good = ap is_bad_type (ap (λ (q : Packet). q.pt) e) ∙ rtx-good settings fine rtx given;
     sent = unpadded_packet p;
     media = again settings fine rtx w (unpadded_packet p) given (ap (λ (q : Packet). q.ssrc) e)
-        (original_again rtx rtx.media_rtx_type n p w e number source first);
+        (original_again settings law rtx rtx.media_rtx_type n p w e number source first);
     plain = unpadded_packet p;
     out = plain_out (unpadded_packet p) type;
     same = refl;
@@ -171,7 +190,8 @@ module _ (law : ReadsRtxAgain) (settings : Settings) (fine : fault_of settings �
         good = ap is_bad_type (ap (λ (x : Packet). x.pt) e) ∙ red_rtx-good settings fine rtx rtx_type given has;
         sent = unpadded_packet q;
         media = again settings fine rtx w (unpadded_packet q) given (ap (λ (x : Packet). x.ssrc) e)
-            (original_again rtx rtx_type n q w e small (red_is.source red.red_type ∙ source) second);
+            (original_again settings law rtx rtx_type n q w e small (red_is.source red.red_type ∙ source)
+            second);
         plain = as_media settings (unpadded_packet q) p.payload;
         out = red_plain red (unpadded_packet q) given_red refl;
         same = red_is.same red.red_type (unpadded_packet q) refl;
@@ -180,17 +200,7 @@ module _ (law : ReadsRtxAgain) (settings : Settings) (fine : fault_of settings �
         small = omega (arith, red_is.number red.red_type, number)
 
         second : original_type (apt_of settings rtx) rtx_type ≡ Some (into red.red_type p).pt
-        second =
-            ap (λ b. option_map (λ (pair : ℕ × ℕ). pair.1)
-            (if b then Some (rtx.media_rtx_type, settings.media_type)
-            else find (λ (pair : ℕ × ℕ). pair.0 == rtx_type) (red_pair rtx.red_rtx_type settings.red)))
-            (ne_eqb rtx.media_rtx_type rtx_type (λ e'. red_rtx-apart settings fine rtx rtx_type given has (sym e')))
-            ∙ ap (λ o. option_map (λ (pair : ℕ × ℕ). pair.1)
-            (find (λ (pair : ℕ × ℕ). pair.0 == rtx_type) (red_pair o settings.red))) has
-            ∙ ap (λ o. option_map (λ (pair : ℕ × ℕ). pair.1)
-            (find (λ (pair : ℕ × ℕ). pair.0 == rtx_type) (red_pair (Some rtx_type) o))) given_red
-            ∙ ap (λ b. option_map (λ (pair : ℕ × ℕ). pair.1)
-            (if b then Some (rtx_type, red.red_type) else None)) (eq-eqb rtx_type rtx_type refl)
+        second = red_again-type settings fine red rtx rtx_type given_red given has
             ∙ ap Some (sym (red_is.type red.red_type))
 
   -- whatever the form

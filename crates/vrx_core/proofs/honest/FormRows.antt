@@ -4,6 +4,7 @@ use Rattle.std.proofs.Common.{◌≡◌, ℕ, true, false, List, [], ◌∷◌, 
 use Rattle.vrx_rtp.specs.Packet.{Packet}
 use Rattle.vrx_wrap.specs.Red.{red_of}
 use Rattle.vrx_wrap.specs.Rtx.{rtx_of}
+use Rattle.vrx_repair.specs.Plan.{repairs_in}
 use Rattle.vrx_core.specs.machine.Machine.{Reply, ToDatagram, ToPull, replies, reply, snapshots}
 use Rattle.vrx_core.specs.honest.Sender.{Media, Empty}
 use Rattle.vrx_core.specs.honest.WireForm.{InRed, Again, RedAgain, bare_red, IsEmptyPacket, IsWireForm}
@@ -119,20 +120,26 @@ origins = FromSender 0 ∷ FromSender 1 ∷ FromSender 2 ∷ FromSender 3 ∷ Fr
 
 -- the network is honest
 pub network-honest : HonestNetwork settings codec sender [] [] events origins
-unfolding snapshots packets_taken
+unfolding repairs_in snapshots packets_taken
 network-honest = (
   (first_in_red, tt),
+  tt,
   (
     (second_again, (omega arith, omega arith)),
+    tt,
     (
       (third_red_again, (omega arith, omega arith)),
+      tt,
       (
         (empty_without_block, (omega arith, omega arith)),
+        tt,
         (
           (empty_in_red, (omega arith, omega arith)),
+          tt,
           (
             (empty_again, (omega arith, omega arith)),
-            (tt, ((fourth_plain, (omega arith, omega arith)), (tt, tt))),
+            tt,
+            (tt, tt, ((fourth_plain, (omega arith, omega arith)), tt, (tt, tt, tt))),
           ),
         ),
       ),
@@ -152,5 +159,5 @@ pub frames_pulled : replies settings codec [] events
     ∷ ToPull (Frame (record { first = 65538; last = 65539; ts = 9; key = true; bytes = 5 ∷ 187 ∷ 204 ∷ [] }))
     ∷ answered (what.Media 65541) ∷ ToPull
     (Frame (record { first = 65541; last = 65541; ts = 18; key = false; bytes = 221 ∷ [] })) ∷ []
-unfolding replies reply snapshots
+unfolding repairs_in replies reply snapshots
 frames_pulled = refl

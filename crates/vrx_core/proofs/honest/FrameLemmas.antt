@@ -1,5 +1,5 @@
 -- The runs among an honest sender's packets are its frames.
-use Rattle.std.proofs.Common.{◌≡◌, ◌↔◌, ℕ, zero, suc, ◌+◌, ◌-◌, ◌<◌, ◌≤◌, ◌⊎◌, inl, inr, Bool, true, ◌||◌, List, [], ◌∷◌, map, length, slice_get, Contains, Option, Some, None, IsSomeAnd, is_some, Result, Ok, Err, refl, sym, ◌∙◌, ap, subst, arith}
+use Rattle.std.proofs.Common.{◌≡◌, ◌↔◌, ℕ, zero, suc, ◌+◌, ◌-◌, ◌<◌, ◌≤◌, ◌⊎◌, inl, inr, Bool, true, ◌||◌, List, [], ◌∷◌, map, length, slice_get, Contains, Option, Some, IsSomeAnd, is_some, Result, Ok, Err, refl, sym, ◌∙◌, ap, subst, arith}
 use Rattle.std.specs.List.{AllByRecursion, list_any}
 use Rattle.std.proofs.lemmas.Option.{same_Some}
 use Rattle.std.proofs.lemmas.Bool.{true≢false, cases_order}
@@ -12,23 +12,26 @@ use Rattle.vrx_codec.specs.declared.part.Start.{Start}
 use Rattle.vrx_codec.specs.declared.part.Start.TheVariants.{Yes, No, ByNeighbour}
 use Rattle.vrx_codec.specs.declared.fault.JoinFault.{JoinFault}
 use Rattle.vrx_codec.specs.Meaning.{Meaning}
+use Rattle.vrx_codec.specs.declared.run.Place.{Place}
 use Rattle.vrx_window.specs.Content.{Content}
 use Rattle.vrx_window.specs.Content as contents
 use Rattle.vrx_window.specs.Window.{at, is_available}
 use Rattle.vrx_frames.specs.Run.{Packets, Run, Piece, begins, is_passed, is_start}
 use Rattle.vrx_frames.specs.IsRun.{IsPiece, ArePieces, IsRunBy}
-use Rattle.vrx_core.specs.machine.Standing.{no_layers}
-use Rattle.vrx_core.specs.honest.Sender.{SentFrame, SentPacket, Media, Empty, Sender}
+use Rattle.vrx_core.specs.machine.Told.{Told, place_told}
+use Rattle.vrx_core.specs.honest.Sender.{SentFrame, SentPacket, Media, Fec, Empty, Sender, IsOf}
 use Rattle.vrx_core.specs.honest.WireForm.{content_sent}
 use Rattle.vrx_core.specs.honest.HonestSender.{CarriedPart, SaysRightly, IsPart, AreParts, Travels, HonestSender}
 use Rattle.vrx_core.specs.honest.Ready.{IsNumber}
-use Rattle.vrx_core.specs.honest.HonestRuns.{IsFrameRun}
+use Rattle.vrx_core.specs.honest.HonestRuns.{IsFrameRun, IsSamePlace}
 use Rattle.vrx_core.specs.declared.settings.Settings.{Settings}
 use Rattle.vrx_core.proofs.machine.TestLemmas.{list_any-from, list_any-to, same_test}
 use Rattle.vrx_core.proofs.honest.NumberLemmas.{IsNumberFrom, IsNumberFrom-oldest, IsNumber-from_oldest, oldest}
-use Rattle.vrx_core.proofs.honest.KeepsLemmas.{one-place}
+use Rattle.vrx_core.proofs.honest.KeepsLemmas.{Keeps, one-place}
+use Rattle.vrx_core.proofs.honest.TellLemmas.{ToldRightly}
+use Rattle.vrx_core.proofs.honest.PlaceLemmas.{available-came, same-place}
 use Rattle.vrx_core.proofs.honest.KeptLemmas.{AreKept, kept-there}
-use Rattle.vrx_core.proofs.honest.PartLemmas.{IsMediaSent, IsSent, packet_sent, frame_travels, frame_spans, size, some_holds, some_there}
+use Rattle.vrx_core.proofs.honest.PartLemmas.{IsMediaSent, IsSent, packet_sent, frame_travels, frame_spans, size, some_from, some_holds, some_there}
 
 -- the packet so many places later has the number so much greater
 pub number_later : (sender : Sender) (js : List ℕ) (i n d j m : ℕ) → IsNumber sender js i n → j ≡ i + d → m ≡ n + d →
@@ -56,6 +59,7 @@ media_text contents.Empty = []
 pub media_sent : (packet : SentPacket) (text : List ℕ) → content_sent packet ≡ contents.Media text →
     IsMediaSent packet
 media_sent (Media f k other) text is = tt
+media_sent (Fec payload) text is = absurd (cc)
 media_sent Empty text is = absurd (cc)
 
 -- what its pieces say, and what its parts say
@@ -198,12 +202,13 @@ module _ (settings : Settings) (codec : Meaning) (sender : Sender) (js : List �
               ∙ any_map (λ c. c.part) (λ x. x.key) cs
 
     -- a run whose first piece is a part of a frame is the frame
-    run_of_frame : (front : Option ℕ) (began : ℕ → Bool) (run : Run)
-        (r : IsRunBy codec no_layers (is_start front began) packets run) (i : ℕ)
+    run_of_frame : (rep : ℕ → Type 0) (told : Told) → Keeps sender js rep packets → ToldRightly sender js rep told →
+        (front : Option ℕ) (began : ℕ → Bool) (run : Run)
+        (r : IsRunBy codec (place_told told) (is_start front began) packets run) (i : ℕ)
         (s : IsSent settings codec sender honest i) (p : Piece) (ps : List Piece) →
         FirstBehind front began run.first → r.pieces ≡ p ∷ ps → IsNumber sender js i run.first →
         IsFrameRun sender js s.f run
-    run_of_frame front began run r i s p ps first_behind is numbered =
+    run_of_frame rep told keeps right front began run r i s p ps first_behind is numbered =
         let t : Travels settings codec sender s.f s.frame (honest.place s.f) (honest.parts s.f) =
         frame_travels settings codec sender honest s.f s.frame s.sent in
         let pieces : ArePieces codec packets run.first (p ∷ ps) =
@@ -244,15 +249,19 @@ module _ (settings : Settings) (codec : Meaning) (sender : Sender) (js : List �
           };
           ts = sym ts.0 ∙ ap (λ (x : Packet). x.ts) packet_is ∙ s.part.timestamp;
           key = same_key run s.frame r.pieces (honest.parts s.f) (ap said is ∙ same) r.key t.key;
-          layers = r.layers;
+          layers = subst (λ (o : Option Place). IsSamePlace o s.frame.layers) (sym r.layers)
+              (same-place sender js rep told right i run.first s.f s.frame s.sent
+              (available-came sender js rep packets i run.first keeps numbered (ap is_some pieces.0.media)) numbered
+              (some_from (IsOf s.f) (slice_get sender.packets i) (Media s.f s.k s.carried.text) s.part.sent refl));
           bytes = same_ok {E = JoinFault} run.bytes s.frame.bytes
               (sym r.joins ∙ ap codec.join (ap said is ∙ same) ∙ t.joins);
         }
 
     -- a run is a frame of the sender
-    pub run-frame : (front : Option ℕ) (began : ℕ → Bool) (run : Run) → FirstBehind front began run.first →
-        IsRunBy codec no_layers (is_start front began) packets run → (f : ℕ) × IsFrameRun sender js f run
-    run-frame front began run first_behind r = by_pieces r.pieces refl where
+    pub run-frame : (rep : ℕ → Type 0) (told : Told) → Keeps sender js rep packets → ToldRightly sender js rep told →
+        (front : Option ℕ) (began : ℕ → Bool) (run : Run) → FirstBehind front began run.first →
+        IsRunBy codec (place_told told) (is_start front began) packets run → (f : ℕ) × IsFrameRun sender js f run
+    run-frame rep told keeps right front began run first_behind r = by_pieces r.pieces refl where
       by_pieces : (xs : List Piece) → r.pieces ≡ xs → (f : ℕ) × IsFrameRun sender js f run
       by_pieces [] is =
           let to : run.first + length r.pieces ≡ run.last + 1 = r.to_last in
@@ -271,7 +280,7 @@ module _ (settings : Settings) (codec : Meaning) (sender : Sender) (js : List �
           packet_sent settings codec sender honest q.0 there.0 there.1
           (media_sent there.0 piece.text
           (same_Some (content_sent there.0) (contents.Media piece.text) (sym there.2 ∙ piece.media))) in
-          (s.f, run_of_frame front began run r q.0 s p ps first_behind is q.1)
+          (s.f, run_of_frame rep told keeps right front began run r q.0 s p ps first_behind is q.1)
 
   -- the pieces of parts, under these numbers
   abbrev pieces_of : ℕ → List CarriedPart → List Piece
@@ -327,15 +336,15 @@ module _ (settings : Settings) (codec : Meaning) (sender : Sender) (js : List �
       last_marked (k + 1) (i + 1) (n + 1) last cs parts.1 (omega arith),
     )
 
-  -- the run of a frame from a number on
-  abbrev pub frame_run : SentFrame → ℕ → List CarriedPart → Run
-  frame_run frame first parts =
+  -- the run of a frame from a number on, after these places were told
+  abbrev pub frame_run : Told → SentFrame → ℕ → List CarriedPart → Run
+  frame_run told frame first parts =
       record {
         first = first;
         last = first + length parts - 1;
         ts = frame.ts;
         key = frame.key;
-        layers = None;
+        layers = place_told told first;
         bytes = frame.bytes;
       }
 
@@ -387,14 +396,14 @@ module _ (settings : Settings) (codec : Meaning) (sender : Sender) (js : List �
           by_place (suc x) is same = absurd (omega arith)
 
     -- a frame each of whose packets is available, and which begins with its first part, is a run
-    pub frame-run : (front : Option ℕ) (began : ℕ → Bool) (f : ℕ) (frame : SentFrame) (first : ℕ) →
+    pub frame-run : (told : Told) (front : Option ℕ) (began : ℕ → Bool) (f : ℕ) (frame : SentFrame) (first : ℕ) →
         slice_get sender.frames f ≡ Some frame → FirstBehind honest front began first →
         ((c : CarriedPart) → IsPart settings codec sender f frame (size settings codec sender honest f) 0
         (honest.place f) c → begins c.part.start (is_behind front began first) ≡ true)
         → IsNumber sender js (honest.place f) first →
         ((n : ℕ) → first ≤ n → n < first + length (honest.parts f) → is_available n packets ≡ true) →
-        IsRunBy codec no_layers (is_start front began) packets (frame_run frame first (honest.parts f))
-    frame-run front began f frame first is first_behind begin numbered available =
+        IsRunBy codec (place_told told) (is_start front began) packets (frame_run told frame first (honest.parts f))
+    frame-run told front began f frame first is first_behind begin numbered available =
         let cs : List CarriedPart = honest.parts f in
         let t : Travels settings codec sender f frame (honest.place f) cs =
         frame_travels settings codec sender honest f frame is in

@@ -1,17 +1,22 @@
 -- Every honest call is answered rightly.
-use Rattle.std.proofs.Common.{Err, ◌≡◌, ℕ, zero, suc, ◌+◌, ◌<◌, ◌≤◌, true, List, [], ◌∷◌, length, slice_get, slice_index, Contains, All, Option, Some, None, IfSome, IsSomeAnd, refl, sym, subst, arith, suc-add}
+use Rattle.std.proofs.Common.{Err, Ok, ◌≡◌, ℕ, zero, suc, ◌+◌, ◌<◌, ◌≤◌, true, List, [], ◌∷◌, length, slice_get, slice_index, Contains, All, Option, Some, None, IfSome, IsSomeAnd, refl, sym, subst, arith, suc-add}
 use Rattle.std.specs.List.Sorted.{IsStrictlyIncreasing}
 use Rattle.vrx_codec.specs.Meaning.{Meaning}
 use Rattle.vrx_num.specs.Extended.{GivesMeant}
+use Rattle.vrx_num.specs.Pictures.{GivesPicture}
 use Rattle.vrx_frames.specs.Run.{Run}
 use Rattle.vrx_frames.specs.IsRun.{RunsAre}
+use Rattle.vrx_repair.specs.Truth.{TrueRepairs}
 use Rattle.vrx_core.specs.machine.SettingsFault.{fault_of}
 use Rattle.vrx_core.specs.machine.Verdict.{verdict}
 use Rattle.vrx_core.specs.machine.Machine.{Reply, ToDatagram, ToTick, ToPull, Snapshot, latest, last_pulled, next_run, pulled_of, after_pull, snapshots, reply, replies}
-use Rattle.vrx_core.specs.honest.Sender.{Sender}
+use Rattle.vrx_window.specs.Content.{Content}
+use Rattle.vrx_core.specs.honest.Sender.{Sender, wire_of}
+use Rattle.vrx_core.specs.honest.WireForm.{content_sent}
+use Rattle.vrx_core.specs.honest.Ready.{IsNumber}
 use Rattle.vrx_core.specs.honest.Chain.{InChain}
 use Rattle.vrx_core.specs.honest.HonestSender.{HonestSender}
-use Rattle.vrx_core.specs.honest.HonestNetwork.{Origin, FromSender, Elsewhere, IsDelivery, HonestNetwork, packets_taken}
+use Rattle.vrx_core.specs.honest.HonestNetwork.{Origin, FromSender, Elsewhere, IsDelivery, HonestNetwork, PicturesAreNear, packets_taken}
 use Rattle.vrx_core.specs.honest.HonestRuns.{IsFrameRun}
 use Rattle.vrx_core.specs.honest.HonestCall.{IsSentFrame, IsAnswer, Answers, places_of, frames_of, AreSent, BeginsWithKey, AfterReferences, HonestCall, HonestCallHolds}
 use Rattle.vrx_core.specs.declared.settings.Settings.{Settings}
@@ -21,8 +26,9 @@ use Rattle.vrx_core.specs.declared.original.NotTaken.{NotTaken}
 use Rattle.vrx_core.specs.declared.reply.Pulled.TheVariants as pulls
 use Rattle.vrx_core.proofs.machine.AnswerLemmas.{answer-given}
 use Rattle.vrx_core.proofs.machine.StandingLemmas.{given-rises, standing_is}
-use Rattle.vrx_core.proofs.honest.BroughtLemmas.{verdict_aside}
-use Rattle.vrx_core.proofs.honest.WireLemmas.{FormLaws}
+use Rattle.vrx_core.proofs.honest.BroughtLemmas.{verdict_aside, verdict_taken}
+use Rattle.vrx_core.proofs.honest.NumberLemmas.{taken-number}
+use Rattle.vrx_core.proofs.honest.WireLemmas.{Brings, FormLaws, brings}
 use Rattle.vrx_core.proofs.honest.TookLemmas.{Took}
 use Rattle.vrx_core.proofs.honest.HonestTakenLemmas.{took_step, first_took}
 use Rattle.vrx_core.proofs.honest.LossLemmas.{losses-asked}
@@ -57,8 +63,8 @@ Gives sender bound fs after (Some f) (ToPull (pulls.Frame frame)) =
     × IfSome (slice_get sender.frames f) (λ sent. All (λ g. Contains fs g) sent.references)
 Gives sender bound fs after _ _ = ⊥
 
-module _ (meant : GivesMeant) (laws : FormLaws) (are : RunsAre) (settings : Settings) (codec : Meaning)
-    (sender : Sender) (good : fault_of settings ≡ None) (honest : HonestSender settings codec sender) where
+module _ (meant : GivesMeant) (picture : GivesPicture) (laws : FormLaws) (truth : TrueRepairs) (are : RunsAre)
+    (settings : Settings) (codec : Meaning) (sender : Sender) (good : fault_of settings ≡ None) (honest : HonestSender settings codec sender) where
   -- what held after a history
   abbrev HoldsAt : List Event → List Origin → List ℕ → Type 0
   HoldsAt h origins fs =
@@ -93,22 +99,37 @@ module _ (meant : GivesMeant) (laws : FormLaws) (are : RunsAre) (settings : Sett
 
     -- what was taken after one event more
     took_now : HoldsAt h origins fs → (e : Event) (o : Origin) → IsDelivery settings codec sender h origins e o →
+        PicturesAreNear settings codec sender (e ∷ h) (o ∷ origins) →
         Took sender (snapshots settings codec (e ∷ h)) (packets_taken settings codec (e ∷ h) (o ∷ origins))
-    took_now holds e o delivery =
-        took_step settings codec sender h origins meant laws good honest holds.took e o delivery
+    took_now holds e o delivery near =
+        took_step settings codec sender h origins meant picture laws truth good honest holds.took e o delivery near
+
+    -- a packet that is taken has its number
+    numbered_now : (octets : List ℕ) (i : ℕ) → HoldsAt h origins fs →
+        IsDelivery settings codec sender h origins (Datagram 0 octets) (FromSender i) → (n : ℕ) (content : Content) →
+        verdict settings codec (latest past).window octets ≡ Ok (n, content) →
+        IsNumber sender (i ∷ packets_taken settings codec h origins) i n
+    numbered_now octets i holds delivery n content taken =
+        let b : Brings settings codec sender i octets =
+        brings laws settings codec good sender honest i octets delivery.0 in
+        taken-number meant sender (packets_taken settings codec h origins) (latest past).window.newest i n
+        holds.took.here.newest delivery.1
+        (verdict_taken settings codec (latest past).window octets
+        (record { wire = wire_of sender i; content = content_sent b.packet }) n content b.is taken).0
 
     -- a datagram of the sender
     sent_step : (moment : ℕ) (octets : List ℕ) (i : ℕ) → HoldsAt h origins fs →
         IsDelivery settings codec sender h origins (Datagram moment octets) (FromSender i) →
+        PicturesAreNear settings codec sender (Datagram moment octets ∷ h) (FromSender i ∷ origins) →
         Step h origins fs (Datagram moment octets) (FromSender i)
     unfolding snapshots packets_taken reply
-    sent_step moment octets i holds delivery = record {
+    sent_step moment octets i holds delivery near = record {
       after = fs;
       place = None;
       holds = datagram-holds settings codec sender honest past
           (packets_taken settings codec h origins) fs holds moment i
-          (verdict settings codec (latest past).window octets)
-          (took_now holds (Datagram moment octets) (FromSender i) delivery);
+          (verdict settings codec (latest past).window octets) (numbered_now octets i holds delivery)
+          (took_now holds (Datagram moment octets) (FromSender i) delivery near);
       answer = tt;
       gives = refl;
     }
@@ -116,9 +137,10 @@ module _ (meant : GivesMeant) (laws : FormLaws) (are : RunsAre) (settings : Sett
     -- a datagram that is RTCP or refused, whatever came before
     other_step : (moment : ℕ) (octets : List ℕ) → HoldsAt h origins fs →
         IsDelivery settings codec sender h origins (Datagram moment octets) Elsewhere →
+        PicturesAreNear settings codec sender (Datagram moment octets ∷ h) (Elsewhere ∷ origins) →
         Step h origins fs (Datagram moment octets) Elsewhere
     unfolding snapshots packets_taken reply
-    other_step moment octets holds aside =
+    other_step moment octets holds aside near =
         let v : (left : NotTaken) × (verdict settings codec (latest past).window octets ≡ Err left) =
         verdict_aside settings codec (latest past).window octets aside in
         record {
@@ -127,19 +149,21 @@ module _ (meant : GivesMeant) (laws : FormLaws) (are : RunsAre) (settings : Sett
           holds = aside-holds settings codec sender honest past
               (packets_taken settings codec h origins) fs holds moment v.0
               (verdict settings codec (latest past).window octets) v.1
-              (took_now holds (Datagram moment octets) Elsewhere aside);
+              (took_now holds (Datagram moment octets) Elsewhere aside near);
           answer = tt;
           gives = refl;
         }
 
     -- a tick
-    tick_step : (moment : ℕ) → HoldsAt h origins fs → Step h origins fs (Tick moment) Elsewhere
+    tick_step : (moment : ℕ) → HoldsAt h origins fs →
+        PicturesAreNear settings codec sender (Tick moment ∷ h) (Elsewhere ∷ origins) →
+        Step h origins fs (Tick moment) Elsewhere
     unfolding snapshots packets_taken reply
-    tick_step moment holds = record {
+    tick_step moment holds near = record {
       after = fs;
       place = None;
       holds = tick-holds settings codec sender honest past (packets_taken settings codec h origins) fs holds moment
-          (took_now holds (Tick moment) Elsewhere tt);
+          (took_now holds (Tick moment) Elsewhere tt near);
       answer = tt;
       gives = refl;
     }
@@ -148,14 +172,15 @@ module _ (meant : GivesMeant) (laws : FormLaws) (are : RunsAre) (settings : Sett
     abbrev answered : Option Run
     answered = next_run (latest past)
 
-    module _ (moment : ℕ) (holds : HoldsAt h origins fs) where
+    module _ (moment : ℕ) (holds : HoldsAt h origins fs)
+        (near : PicturesAreNear settings codec sender (Pull moment ∷ h) (Elsewhere ∷ origins)) where
       -- what was taken after the pull
       took_pull : (o : Option Run) → answered ≡ o →
           Took sender (after_pull codec past moment o ∷ past) (packets_taken settings codec h origins)
       unfolding snapshots packets_taken
       took_pull o is = subst (λ (x : Option Run).
           Took sender (after_pull codec past moment x ∷ past) (packets_taken settings codec h origins)) is
-          (took_now holds (Pull moment) Elsewhere tt)
+          (took_now holds (Pull moment) Elsewhere tt near)
 
       -- a pull that gives no frame
       none_step : answered ≡ None → Step h origins fs (Pull moment) Elsewhere
@@ -191,7 +216,7 @@ module _ (meant : GivesMeant) (laws : FormLaws) (are : RunsAre) (settings : Sett
       unfolding snapshots packets_taken reply
       frame_step run given =
           let s : Snapshot = latest past in
-          let there = answer-given (last_pulled s.pulled) s.front s.standing run given in
+          let there = answer-given s.told s.pulled s.front s.standing run given in
           let p : (f : ℕ) × IsFrameRun sender (packets_taken settings codec h origins) f run =
           frame_is are settings codec sender honest h origins fs holds run there.0 in
           let chain : (g : ℕ) → InChain sender p.0 g → Contains fs g =
@@ -204,7 +229,8 @@ module _ (meant : GivesMeant) (laws : FormLaws) (are : RunsAre) (settings : Sett
                 (packets_taken settings codec h origins) (p.0 ∷ fs)) (sym given)
                 (frame-holds settings codec sender honest past
                 (packets_taken settings codec h origins) fs holds moment run p.0
-                (answer_pulled are settings codec sender honest h origins fs holds run given p.0 p.1) chain
+                (answer_pulled are settings codec sender honest h origins fs holds run given p.0 p.1)
+                (answer_later are settings codec sender honest h origins fs holds run given p.0 p.1) chain
                 (later_end run given) (took_pull (Some run) given));
             answer = subst (λ (o : Option Run).
                 IsAnswer settings codec sender h origins (Pull moment) (ToPull (pulled_of o)) (Some p.0)) (sym given)
@@ -227,13 +253,13 @@ module _ (meant : GivesMeant) (laws : FormLaws) (are : RunsAre) (settings : Sett
 
     -- each delivery
     pub step : HoldsAt h origins fs → (e : Event) (o : Origin) → IsDelivery settings codec sender h origins e o →
-        Step h origins fs e o
-    step holds (Datagram moment octets) (FromSender i) delivery = sent_step moment octets i holds delivery
-    step holds (Datagram moment octets) Elsewhere delivery = other_step moment octets holds delivery
-    step holds (Tick moment) (FromSender i) delivery = absurd delivery
-    step holds (Tick moment) Elsewhere delivery = tick_step moment holds
-    step holds (Pull moment) (FromSender i) delivery = absurd delivery
-    step holds (Pull moment) Elsewhere delivery = pull_by moment holds answered refl
+        PicturesAreNear settings codec sender (e ∷ h) (o ∷ origins) → Step h origins fs e o
+    step holds (Datagram moment octets) (FromSender i) delivery near = sent_step moment octets i holds delivery near
+    step holds (Datagram moment octets) Elsewhere delivery near = other_step moment octets holds delivery near
+    step holds (Tick moment) (FromSender i) delivery near = absurd delivery
+    step holds (Tick moment) Elsewhere delivery near = tick_step moment holds near
+    step holds (Pull moment) (FromSender i) delivery near = absurd delivery
+    step holds (Pull moment) Elsewhere delivery near = pull_by moment holds near answered refl
 
     -- nothing given before the rest
     nothing_before : (after : List ℕ) (e : Event) (o : Origin) (es : List Event) (os : List Origin) (r : Reply)
@@ -288,10 +314,10 @@ module _ (meant : GivesMeant) (laws : FormLaws) (are : RunsAre) (settings : Sett
   call_from [] h origins (o ∷ os) fs holds network = absurd network
   call_from (e ∷ es) h origins [] fs holds network = absurd network
   call_from (e ∷ es) h origins (o ∷ os) fs holds network =
-      let s : Step h origins fs e o = step h origins fs holds e o network.0 in
+      let s : Step h origins fs e o = step h origins fs holds e o network.0 network.1 in
       step_before h origins fs s.after e o es os s.place (reply settings codec h e)
       (replies settings codec (e ∷ h) es) s.answer s.gives
-      (call_from es (e ∷ h) (o ∷ origins) os s.after s.holds network.1)
+      (call_from es (e ∷ h) (o ∷ origins) os s.after s.holds network.2)
 
   -- before the first event
   pub first_holds : HoldsAt [] [] []
@@ -316,6 +342,6 @@ module _ (meant : GivesMeant) (laws : FormLaws) (are : RunsAre) (settings : Sett
       }
 
 -- every honest call is answered rightly
-pub honest_call : GivesMeant → FormLaws → RunsAre → HonestCallHolds
-honest_call meant laws are settings codec sender events origins good honest network =
-    honest-call meant laws are settings codec sender good honest events origins network
+pub honest_call : GivesMeant → GivesPicture → FormLaws → TrueRepairs → RunsAre → HonestCallHolds
+honest_call meant picture laws truth are settings codec sender events origins good honest network =
+    honest-call meant picture laws truth are settings codec sender good honest events origins network

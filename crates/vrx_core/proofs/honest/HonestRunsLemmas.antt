@@ -2,7 +2,9 @@
 use Rattle.std.proofs.Common.{◌≡◌, ℕ, None, List, [], ◌∷◌}
 use Rattle.vrx_codec.specs.Meaning.{Meaning}
 use Rattle.vrx_num.specs.Extended.{GivesMeant}
+use Rattle.vrx_num.specs.Pictures.{GivesPicture}
 use Rattle.vrx_frames.specs.IsRun.{RunsAre}
+use Rattle.vrx_repair.specs.Truth.{TrueRepairs}
 use Rattle.vrx_core.specs.machine.SettingsFault.{fault_of}
 use Rattle.vrx_core.specs.machine.Machine.{snapshots}
 use Rattle.vrx_core.specs.honest.Sender.{Sender}
@@ -16,8 +18,9 @@ use Rattle.vrx_core.proofs.honest.HoldsLemmas.{Holds}
 use Rattle.vrx_core.proofs.honest.HonestLemmas.{Step, step, first_holds}
 use Rattle.vrx_core.proofs.honest.ReadyLemmas.{IsRunOf, frame_is, complete_run}
 
-module _ (meant : GivesMeant) (laws : FormLaws) (are : RunsAre) (settings : Settings) (codec : Meaning)
-    (sender : Sender) (good : fault_of settings ≡ None) (honest : HonestSender settings codec sender) where
+module _ (meant : GivesMeant) (picture : GivesPicture) (laws : FormLaws) (truth : TrueRepairs) (are : RunsAre)
+    (settings : Settings) (codec : Meaning) (sender : Sender) (good : fault_of settings ≡ None)
+    (honest : HonestSender settings codec sender) where
   -- the runs after a history
   runs_rightly : (h : List Event) (origins : List Origin) (fs : List ℕ) →
       Holds settings codec sender honest (snapshots settings codec h) (packets_taken settings codec h origins) fs →
@@ -39,12 +42,12 @@ module _ (meant : GivesMeant) (laws : FormLaws) (are : RunsAre) (settings : Sett
   runs_from [] h origins (o ∷ os) fs holds network = absurd network
   runs_from (e ∷ es) h origins [] fs holds network = absurd network
   runs_from (e ∷ es) h origins (o ∷ os) fs holds network =
-      let s : Step meant laws are settings codec sender good honest h origins fs e o =
-      step meant laws are settings codec sender good honest h origins fs holds e o network.0 in
-      (runs_rightly h origins fs holds, runs_from es (e ∷ h) (o ∷ origins) os s.after s.holds network.1)
+      let s : Step meant picture laws truth are settings codec sender good honest h origins fs e o =
+      step meant picture laws truth are settings codec sender good honest h origins fs holds e o network.0 network.1 in
+      (runs_rightly h origins fs holds, runs_from es (e ∷ h) (o ∷ origins) os s.after s.holds network.2)
 
 -- in every honest call the runs are the sender's frames
-pub honest_runs : GivesMeant → FormLaws → RunsAre → HonestRunsHolds
-honest_runs meant laws are settings codec sender events origins good honest network =
-    runs_from meant laws are settings codec sender good honest events [] [] origins []
-    (first_holds meant laws are settings codec sender good honest) network
+pub honest_runs : GivesMeant → GivesPicture → FormLaws → TrueRepairs → RunsAre → HonestRunsHolds
+honest_runs meant picture laws truth are settings codec sender events origins good honest network =
+    runs_from meant picture laws truth are settings codec sender good honest events [] [] origins []
+    (first_holds meant picture laws truth are settings codec sender good honest) network

@@ -7,14 +7,14 @@ use Rattle.vrx_wrap.specs.Red.{block_of, red_of}
 use Rattle.vrx_wrap.specs.declared.red.RedFault.TheVariants as reds
 use Rattle.vrx_core.specs.machine.SettingsFault.{is_bad_type, fault_of}
 use Rattle.vrx_core.specs.machine.Text.{without_padding}
-use Rattle.vrx_core.specs.machine.Original.{as_media, from_block}
+use Rattle.vrx_core.specs.machine.Original.{Plain, Parity, as_media, from_block, is_fec_type}
 use Rattle.vrx_core.specs.honest.WireForm.{bare_red}
 use Rattle.vrx_core.specs.declared.settings.Settings.{Settings}
 use Rattle.vrx_core.specs.declared.reply.Reason.TheVariants.{BadRed}
 use Rattle.vrx_core.proofs.honest.SettingsTypesLemmas.{media-good}
 
 -- a type that RTCP doesn't take has seven bits
-seven_bits : (type : ℕ) → is_bad_type type ≡ false → type < 128
+pub seven_bits : (type : ℕ) → is_bad_type type ≡ false → type < 128
 seven_bits type good =
     let upto : nat_lt 127 type ≡ false = (or_parts (nat_le 64 type && nat_le type 95) (nat_lt 127 type) good).1 in
     omega (arith, ltb-false 127 type upto)
@@ -25,7 +25,7 @@ pub record IsIntoRed (settings : Settings) (into : ℕ → Packet → Packet) (p
   pub number : (t : ℕ) → (into t p).seq ≡ p.seq
   pub source : (t : ℕ) → (into t p).ssrc ≡ p.ssrc
   pub back : (t : ℕ) (w : Packet) → without_padding w ≡ without_padding (into t p) →
-      from_block settings w (block_of w.payload) ≡ Ok (as_media settings w p.payload)
+      from_block settings w (block_of w.payload) ≡ Ok (Plain (as_media settings w p.payload))
   pub same : (t : ℕ) (w : Packet) → without_padding w ≡ without_padding (into t p) →
       without_padding (as_media settings w p.payload) ≡ without_padding p
 
@@ -48,12 +48,13 @@ module _ (settings : Settings) (p : Packet) (type : p.pt ≡ settings.media_type
     below = seven_bits p.pt (ap is_bad_type type ∙ media-good settings good)
 
     back : (t : ℕ) (w : Packet) → without_padding w ≡ without_padding (red_of t p) →
-        from_block settings w (block_of w.payload) ≡ Ok (as_media settings w p.payload)
+        from_block settings w (block_of w.payload) ≡ Ok (Plain (as_media settings w p.payload))
     back t w e =
         ap (λ (q : Packet). from_block settings w (block_of q.payload)) e
         ∙ ap (λ b. from_block settings w
         (if b then Ok (record { pt = p.pt; rest = p.payload }) else Err reds.MoreBlocks)) (lt-ltb p.pt 128 below)
-        ∙ ap (λ b. if b then Ok (as_media settings w p.payload) else Err BadRed)
+        ∙ ap (λ b. if b then Ok (Plain (as_media settings w p.payload))
+        else if is_fec_type settings p.pt then Ok (Parity (record w { payload = p.payload })) else Err BadRed)
         (eq-eqb p.pt settings.media_type type)
 
   -- RED without a block, if there is no payload
@@ -65,7 +66,7 @@ module _ (settings : Settings) (p : Packet) (type : p.pt ≡ settings.media_type
     back = λ t w e.
         ap (λ (q : Packet). from_block settings w (block_of q.payload)) e
         ∙ ap (λ os. from_block settings w (block_of os)) none
-        ∙ ap (λ os. Ok (as_media settings w os)) (sym none);
+        ∙ ap (λ os. Ok (Plain (as_media settings w os))) (sym none);
     same = λ t w e.
         ap (λ (q : Packet). record q { pt = settings.media_type; payload = p.payload }) e ∙ typed;
   }

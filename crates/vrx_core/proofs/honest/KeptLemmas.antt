@@ -1,5 +1,5 @@
 -- The packets that the receiver keeps are the sender's.
-use Rattle.std.proofs.Common.{◌≡◌, ℕ, Bool, true, false, cond, List, [], ◌∷◌, Option, Some, None, IsSomeAnd, is_some, slice_get, refl, sym, ◌∙◌, ap, subst, Less, Equal, Greater, nat_cmp}
+use Rattle.std.proofs.Common.{◌≡◌, ℕ, Bool, true, false, cond, List, [], ◌∷◌, Contains, Option, Some, None, IsSomeAnd, is_some, slice_get, refl, sym, ◌∙◌, ap, subst, inl, inr, Less, Equal, Greater, nat_cmp}
 use Rattle.std.specs.Ordering.{eq_by_cmp}
 use Rattle.std.specs.FinMap.Entries.{by_order, put, where_key}
 use Rattle.vrx_window.specs.Content.{Content}
@@ -9,6 +9,7 @@ use Rattle.vrx_core.specs.honest.Sender.{SentPacket, Sender}
 use Rattle.vrx_core.specs.honest.WireForm.{content_sent}
 use Rattle.vrx_core.specs.honest.Ready.{IsNumber}
 use Rattle.vrx_core.proofs.honest.NumberLemmas.{IsNumber-grown}
+use Rattle.vrx_core.proofs.machine.MemberLemmas.{Contains-either, Contains-empty}
 use Rattle.vrx_core.proofs.machine.KeyLemmas.{same_key, equal_key}
 
 -- an entry is the sender's packet of this place, under its number
@@ -23,6 +24,15 @@ AreKept sender js [] = Unit {0}
 AreKept sender js (e ∷ es) = IsKept sender js e × AreKept sender js es
 
 module _ (sender : Sender) (js : List ℕ) where
+  -- an entry of those kept
+  pub kept-among : (packets : Packets) (entry : ℕ × Content) → AreKept sender js packets →
+      Contains packets entry → IsKept sender js entry
+  kept-among [] entry kept there = absurd (Contains-empty entry there)
+  kept-among (e ∷ es) entry kept there = elim (Contains-either e es entry there) [
+    | inl same ↦ subst (IsKept sender js) same kept.0
+    | inr later ↦ kept-among es entry kept.1 later
+  ]
+
   -- fewer entries
   pub where_key-kept : (p : ℕ → Bool) (packets : Packets) → AreKept sender js packets →
       AreKept sender js (where_key nat_cmp p packets)

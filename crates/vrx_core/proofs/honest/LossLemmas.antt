@@ -67,4 +67,4 @@ module _ (settings : Settings) (codec : Meaning) (sender : Sender) where
   losses-asked [] h origins (o ∷ os) network = absurd network
   losses-asked (e ∷ es) h origins [] network = absurd network
   losses-asked (e ∷ es) h origins (o ∷ os) network =
-      (asks-for-loss h origins e o, losses-asked es (e ∷ h) (o ∷ origins) os network.1)
+      (asks-for-loss h origins e o, losses-asked es (e ∷ h) (o ∷ origins) os network.2)

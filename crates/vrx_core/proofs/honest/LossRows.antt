@@ -2,6 +2,7 @@
 -- request for a keyframe; and it is dropped when it comes after all.
 use Rattle.std.proofs.Common.{◌≡◌, ℕ, List, [], ◌∷◌, Some, None, refl, arith}
 use Rattle.vrx_rtcp.specs.declared.feedback.Feedback.{Feedback}
+use Rattle.vrx_repair.specs.Plan.{repairs_in}
 use Rattle.vrx_core.specs.machine.Machine.{Reply, ToDatagram, ToTick, replies, reply, snapshots}
 use Rattle.vrx_core.specs.honest.HonestNetwork.{Origin, FromSender, Elsewhere, HonestNetwork, packets_taken}
 use Rattle.vrx_core.specs.honest.HonestTaken.{WasGivenUp}
@@ -32,10 +33,15 @@ origins_back = Elsewhere ∷ Elsewhere ∷ Elsewhere ∷ Elsewhere ∷ Elsewhere
 
 -- the network is honest
 pub network-honest : HonestNetwork settings codec sender [] [] events origins
-unfolding snapshots packets_taken
+unfolding repairs_in snapshots packets_taken
 network-honest = (
   (first_plain, tt),
-  ((third_plain, (omega arith, omega arith)), (tt, (tt, (tt, (tt, (tt, (tt, (tt, (tt, (tt, (tt, tt))))))))))),
+  tt,
+  (
+    (third_plain, (omega arith, omega arith)),
+    tt,
+    (tt, tt, (tt, tt, (tt, tt, (tt, tt, (tt, tt, (tt, tt, (tt, tt, (tt, tt, (tt, tt, (tt, tt, tt)))))))))),
+  ),
 )
 
 -- a NACK of the number 2 alone (RFC 4585 6.2.1), and a PLI (RFC 4585 6.3.1), from 11 about 10
@@ -64,15 +70,15 @@ pub asked : replies settings codec [] events
     ∷ ToTick asks_both ∷ ToTick asks ∷ ToTick asks ∷ ToTick asks_both ∷ ToTick asks ∷ ToTick asks ∷ ToTick asks_both
     ∷ ToTick asks ∷ ToTick asks
     ∷ ToTick (record { nack = None; pli = Some pli }) ∷ []
-unfolding replies reply snapshots
+unfolding repairs_in replies reply snapshots
 asked = refl
 
 -- packet 1 was given up, under its number
 pub given_up : WasGivenUp settings codec sender history origins_back 1
-unfolding snapshots packets_taken
+unfolding repairs_in snapshots packets_taken
 given_up = (65538, omega arith, refl)
 
 -- and is dropped when it comes after all
 pub dropped : reply settings codec history (Datagram 1002 second_text) ≡ answered (what.Dropped Dead) quiet
-unfolding reply snapshots
+unfolding repairs_in reply snapshots
 dropped = refl

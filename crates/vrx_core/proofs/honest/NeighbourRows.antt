@@ -1,6 +1,6 @@
 -- An honest sender whose payloads never say where a frame begins, and who sends an empty packet between two frames,
 -- worked by hand: the premises of the laws can be met if the packet before decides.
-use Rattle.std.proofs.Common.{◌≢◌, ◌≤◌, ◌<◌, ◌≡◌, ◌∙◌, ◌⊎◌, ap, inl, inr, Contains, All, ℕ, zero, suc, ◌+◌, true, false, List, [], ◌∷◌, length, Some, None, IfSome, Ok, slice_get, refl, arith}
+use Rattle.std.proofs.Common.{◌≢◌, ◌≤◌, ◌<◌, ◌≡◌, ◌∙◌, ◌⊎◌, ap, inl, inr, Contains, All, ℕ, zero, suc, ◌+◌, true, false, List, [], ◌∷◌, length, Some, None, IfSome, IsSomeAnd, Ok, slice_get, refl, arith}
 use Rattle.std.specs.Prelude.{nat_lt, nat_le, ◌==◌}
 use Rattle.std.specs.List.{AllByRecursion, list_all, list_any, flat_map}
 use Rattle.std.proofs.lemmas.Bool.{and_parts, leb-true, ltb-true}
@@ -13,12 +13,14 @@ use Rattle.vrx_wrap.specs.Red.{red_of}
 use Rattle.vrx_codec.specs.Meaning.{Meaning}
 use Rattle.vrx_codec.specs.declared.part.Start.TheVariants.{ByNeighbour}
 use Rattle.vrx_core.specs.machine.SettingsFault.{fault_of}
+use Rattle.vrx_repair.specs.Plan.{repairs_in}
 use Rattle.vrx_core.specs.machine.Machine.{Reply, ToDatagram, ToPull, replies, reply, snapshots}
-use Rattle.vrx_core.specs.honest.Sender.{SentFrame, Media, Empty, Sender}
+use Rattle.vrx_core.specs.honest.Sender.{SentFrame, Media, Fec, Empty, Sender, IsNoPart}
 use Rattle.vrx_core.specs.machine.Text.{without_padding}
 use Rattle.vrx_core.specs.honest.WireForm.{Plain, Carries, IsFormOf, IsWireForm}
+use Rattle.vrx_core.specs.honest.Layers.{HaveNoLayers}
 use Rattle.vrx_core.specs.honest.Chain.{InChain}
-use Rattle.vrx_core.specs.honest.HonestSender.{CarriedPart, IsPart, Travels, HonestSender}
+use Rattle.vrx_core.specs.honest.HonestSender.{CarriedPart, IsPart, IsTrueFec, Travels, HonestSender}
 use Rattle.vrx_core.specs.honest.HonestNetwork.{Origin, FromSender, Elsewhere, HonestNetwork, packets_taken}
 use Rattle.vrx_core.specs.declared.settings.Settings.{Settings}
 use Rattle.vrx_core.specs.declared.event.Event.{Event}
@@ -74,13 +76,13 @@ abbrev pub fourth_text : List ℕ
 fourth_text = 128 ∷ 224 ∷ 0 ∷ 5 ∷ 0 ∷ 0 ∷ 0 ∷ 18 ∷ 0 ∷ 0 ∷ 0 ∷ 10 ∷ 221 ∷ []
 
 abbrev first_frame : SentFrame
-first_frame = record { bytes = 5 ∷ 170 ∷ []; key = true; ts = 0; references = [] }
+first_frame = record { bytes = 5 ∷ 170 ∷ []; key = true; ts = 0; layers = None; references = [] }
 
 abbrev second_frame : SentFrame
-second_frame = record { bytes = 5 ∷ 187 ∷ 204 ∷ []; key = true; ts = 9; references = [] }
+second_frame = record { bytes = 5 ∷ 187 ∷ 204 ∷ []; key = true; ts = 9; layers = None; references = [] }
 
 abbrev third_frame : SentFrame
-third_frame = record { bytes = 221 ∷ []; key = false; ts = 18; references = 1 ∷ [] }
+third_frame = record { bytes = 221 ∷ []; key = false; ts = 18; layers = None; references = 1 ∷ [] }
 
 abbrev pub sender : Sender
 sender = record {
@@ -159,7 +161,7 @@ fourth_part = record {
 }
 
 -- octets, as a test
-are_octets : (octets : List ℕ) → list_all (λ octet. nat_lt octet 256) octets ≡ true → AreOctets octets
+pub are_octets : (octets : List ℕ) → list_all (λ octet. nat_lt octet 256) octets ≡ true → AreOctets octets
 are_octets octets h = All-from_recursion (λ octet. octet < 256) octets (each octets h) where
   each : (os : List ℕ) → list_all (λ octet. nat_lt octet 256) os ≡ true → AllByRecursion (λ octet. octet < 256) os
   each [] h = tt
@@ -197,11 +199,11 @@ first_is = record {
     source = refl;
     payload = λ e. cc;
     part_reads = refl;
-    layers = refl;
   };
   timestamp = refl;
   marker = (λ e. refl, λ e. refl);
   start = tt;
+  layers = refl;
 }
 
 second_is : IsPart settings codec sender 1 second_frame 2 0 1 second_part
@@ -217,11 +219,11 @@ second_is = record {
     source = refl;
     payload = λ e. cc;
     part_reads = refl;
-    layers = refl;
   };
   timestamp = refl;
   marker = (λ e. cc, λ e. absurd (omega arith));
   start = tt;
+  layers = refl;
 }
 
 third_is : IsPart settings codec sender 1 second_frame 2 1 2 third_part
@@ -237,11 +239,11 @@ third_is = record {
     source = refl;
     payload = λ e. cc;
     part_reads = refl;
-    layers = refl;
   };
   timestamp = refl;
   marker = (λ e. refl, λ e. refl);
   start = tt;
+  layers = refl;
 }
 
 fourth_is : IsPart settings codec sender 2 third_frame 1 0 4 fourth_part
@@ -257,11 +259,11 @@ fourth_is = record {
     source = refl;
     payload = λ e. cc;
     part_reads = refl;
-    layers = refl;
   };
   timestamp = refl;
   marker = (λ e. refl, λ e. refl);
   start = tt;
+  layers = refl;
 }
 
 -- each frame travels
@@ -320,8 +322,10 @@ sender-honest = record {
   travels = travels;
   in_order = order;
   no_other = others;
+  parity = no_parity;
   from_key = refl;
   references = chains;
+  layers = inr no_layers;
   apart = different;
 } where
   travels : (f : ℕ) → IfSome (slice_get sender.frames f)
@@ -340,19 +344,34 @@ sender-honest = record {
   order (suc (suc f)) (suc (suc g)) less within = absurd (omega arith)
 
   others : (i : ℕ) → i < length sender.packets →
-      (slice_get sender.packets i ≡ Some Empty)
+      IsSomeAnd (slice_get sender.packets i) IsNoPart
       ⊎ ((f : ℕ) × (f < length sender.frames) × (place f ≤ i) × (i < place f + length (parts f)))
   others zero within = inr (0, omega arith, omega arith, omega arith)
   others (suc zero) within = inr (1, omega arith, omega arith, omega arith)
   others (suc (suc zero)) within = inr (1, omega arith, omega arith, omega arith)
-  others (suc (suc (suc zero))) within = inl refl
+  others (suc (suc (suc zero))) within = inl tt
   others (suc (suc (suc (suc i)))) within = inr (2, omega arith, omega arith, omega arith)
+
+  no_parity : (i : ℕ) (payload : List ℕ) → slice_get sender.packets i ≡ Some (Fec payload) →
+      IsTrueFec sender i payload
+  no_parity zero payload is = absurd (cc)
+  no_parity (suc zero) payload is = absurd (cc)
+  no_parity (suc (suc zero)) payload is = absurd (cc)
+  no_parity (suc (suc (suc zero))) payload is = absurd (cc)
+  no_parity (suc (suc (suc (suc zero)))) payload is = absurd (cc)
+  no_parity (suc (suc (suc (suc (suc i))))) payload is = absurd (cc)
 
   chains : (f : ℕ) → IfSome (slice_get sender.frames f) (λ frame. All (λ g. InChain sender f g) frame.references)
   chains zero = All-nil (λ g. InChain sender 0 g)
   chains (suc zero) = All-nil (λ g. InChain sender 1 g)
   chains (suc (suc zero)) = All-from_recursion (λ g. InChain sender 2 g) (1 ∷ []) (([], (refl, refl)), tt)
   chains (suc (suc (suc f))) = tt
+
+  no_layers : HaveNoLayers sender.frames
+  no_layers zero = refl
+  no_layers (suc zero) = refl
+  no_layers (suc (suc zero)) = refl
+  no_layers (suc (suc (suc f))) = tt
 
   different : (f : ℕ) → IfSome (slice_get sender.frames f)
       (λ frame. IfSome (slice_get sender.frames (f + 1)) (λ after. frame.ts ≢ after.ts))
@@ -422,16 +441,20 @@ origins = FromSender 0 ∷ FromSender 1 ∷ FromSender 2 ∷ FromSender 3 ∷ El
 
 -- the network is honest
 pub network-honest : HonestNetwork settings codec sender [] [] events origins
-unfolding snapshots packets_taken
+unfolding repairs_in snapshots packets_taken
 network-honest = (
   (first_plain, tt),
+  tt,
   (
     (second_plain, (omega arith, omega arith)),
+    tt,
     (
       (third_plain, (omega arith, omega arith)),
+      tt,
       (
         (empty_plain, (omega arith, omega arith)),
-        (tt, ((fourth_plain, (omega arith, omega arith)), (tt, tt))),
+        tt,
+        (tt, tt, ((fourth_plain, (omega arith, omega arith)), tt, (tt, tt, tt))),
       ),
     ),
   ),
@@ -449,5 +472,5 @@ pub frames_pulled : replies settings codec [] events
     ∷ ToPull (Frame (record { first = 65538; last = 65539; ts = 9; key = true; bytes = 5 ∷ 187 ∷ 204 ∷ [] }))
     ∷ answered (what.Media 65541) ∷ ToPull
     (Frame (record { first = 65541; last = 65541; ts = 18; key = false; bytes = 221 ∷ [] })) ∷ []
-unfolding replies reply snapshots
+unfolding repairs_in replies reply snapshots
 frames_pulled = refl

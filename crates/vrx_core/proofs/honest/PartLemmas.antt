@@ -2,7 +2,7 @@
 use Rattle.std.proofs.Common.{◌≡◌, ℕ, zero, suc, ◌+◌, ◌-◌, ◌<◌, ◌≤◌, ◌⊎◌, false, List, [], ◌∷◌, length, slice_get, Option, Some, None, IfSome, IsSomeAnd, refl, sym, ◌∙◌, ap, subst, arith, inl, inr}
 use Rattle.std.proofs.lemmas.Option.{none-some, same_Some, slice_get_within, slice_get-get_or}
 use Rattle.vrx_codec.specs.Meaning.{Meaning}
-use Rattle.vrx_core.specs.honest.Sender.{SentFrame, SentPacket, Media, Empty, Sender, IsOf, Spans}
+use Rattle.vrx_core.specs.honest.Sender.{SentFrame, SentPacket, Media, Fec, Empty, Sender, IsNoPart, IsOf, Spans}
 use Rattle.vrx_core.specs.honest.HonestSender.{CarriedPart, IsPart, AreParts, Travels, HonestSender}
 use Rattle.vrx_core.specs.declared.settings.Settings.{Settings}
 
@@ -28,12 +28,26 @@ some_there P (Some x) p = (x, refl, p)
 -- the text of a packet, if it is media
 abbrev pub text_sent : SentPacket → List ℕ
 text_sent (Media f k text) = text
+text_sent (Fec payload) = []
 text_sent Empty = []
 
 -- a packet is media
 abbrev pub IsMediaSent : SentPacket → Type 0
 IsMediaSent (Media f k text) = Unit {0}
+IsMediaSent (Fec payload) = ⊥
 IsMediaSent Empty = ⊥
+
+-- a part of a frame is media
+pub part-media : (packet : SentPacket) → IsNoPart packet → IsMediaSent packet → ⊥
+part-media (Media f k text) none media = none
+part-media (Fec payload) none media = media
+part-media Empty none media = media
+
+-- and a packet that is no part is of no frame
+pub part-of : (f : ℕ) (packet : SentPacket) → IsNoPart packet → IsOf f packet → ⊥
+part-of f (Media g k text) none of = none
+part-of f (Fec payload) none of = of
+part-of f Empty none of = of
 
 module _ (settings : Settings) (codec : Meaning) (sender : Sender) where
   -- the part at a place among those of a frame
@@ -78,14 +92,15 @@ module _ (settings : Settings) (codec : Meaning) (sender : Sender) where
     pub packet_sent : (i : ℕ) (packet : SentPacket) → slice_get sender.packets i ≡ Some packet → IsMediaSent packet →
         IsSent i
     packet_sent i packet is media = elim (honest.no_other i (slice_get_within sender.packets i packet is)) [
-      | inl empty ↦ absurd (subst IsMediaSent (same_Some packet Empty (sym is ∙ empty)) media)
+      | inl none ↦ absurd (part-media packet (some_holds IsNoPart (slice_get sender.packets i) packet is none) media)
       | inr p ↦ sent_in p.0 (slice_get sender.frames p.0) refl p.1 p.2 p.3
     ] where
       sent_in : (f : ℕ) (o : Option SentFrame) → slice_get sender.frames f ≡ o → f < length sender.frames →
           honest.place f ≤ i → i < honest.place f + size f → IsSent i
       sent_in f None none within from upto =
           absurd (none-some _ (sym none
-          ∙ slice_get-get_or sender.frames f (record { bytes = []; key = false; ts = 0; references = [] }) within))
+          ∙ slice_get-get_or sender.frames f
+          (record { bytes = []; key = false; ts = 0; layers = None; references = [] }) within))
       sent_in f (Some frame) there within from upto =
           let t : Travels settings codec sender f frame (honest.place f) (honest.parts f) =
           frame_travels f frame there in
@@ -112,6 +127,7 @@ module _ (settings : Settings) (codec : Meaning) (sender : Sender) where
         record { some = omega arith; exactly = λ i. (within i, λ bounds. there i t some bounds.0 bounds.1) } where
           of_media : (packet : SentPacket) → IsOf f packet → IsMediaSent packet
           of_media (Media g k text) of = tt
+          of_media (Fec payload) of = absurd of
           of_media Empty of = absurd of
 
           within : (i : ℕ) → IsSomeAnd (slice_get sender.packets i) (IsOf f) →

@@ -1,46 +1,54 @@
 -- In an honest call the deliverable runs are the ready frames.
-use Rattle.std.proofs.Common.{◌≡◌, ◌↔◌, ℕ, zero, suc, ◌+◌, ◌-◌, ◌<◌, ◌≤◌, ◌⊎◌, Bool, true, false, ◌&&◌, ◌||◌, List, [], ◌∷◌, length, slice_get, Contains, All, Option, Some, None, IfSome, IsSomeAnd, is_some, refl, sym, ◌∙◌, ap, subst, arith, inl, inr}
-use Rattle.std.specs.Prelude.{is_none}
+use Rattle.std.proofs.Common.{◌≡◌, ◌↔◌, ℕ, zero, suc, ◌+◌, ◌-◌, ◌<◌, ◌≤◌, ◌⊎◌, Bool, true, false, cond, ◌&&◌, List, [], ◌∷◌, map, length, slice_get, Contains, All, Option, Some, None, IfSome, IsSomeAnd, is_some, refl, sym, ◌∙◌, ap, subst, arith, inl, inr}
 use Rattle.std.specs.List.{AllByRecursion}
 use Rattle.std.specs.Option.{option_map_or}
 use Rattle.std.proofs.lemmas.Bool.{and_parts, and_from, or_cases, or_left, or_right, both_ways, true≢false, leb-true, le-leb}
-use Rattle.std.proofs.lemmas.Option.{slice_get_within, slice_get-get_or, none-some, same_Some}
+use Rattle.std.proofs.lemmas.Option.{slice_get_within, slice_get-get_or, same_Some}
 use Rattle.std.proofs.lemmas.List.Elements.{All-from_recursion, recursion_from_All}
 use Rattle.vrx_codec.specs.Meaning.{Meaning}
 use Rattle.vrx_rtp.specs.Reading.{read}
 use Rattle.vrx_codec.specs.declared.part.Start.{Start}
+use Rattle.vrx_codec.specs.declared.run.Place.{Place}
 use Rattle.vrx_codec.specs.declared.part.Start.TheVariants.{Yes, No, ByNeighbour}
 use Rattle.vrx_num.specs.declared.limits.TheConstants.{WINDOW}
 use Rattle.vrx_window.specs.Content as contents
 use Rattle.vrx_window.specs.Window.{at, is_available}
-use Rattle.vrx_frames.specs.Run.{Packets, Run, Piece, begins, ends_frame, stands, stands_after_end, is_start, is_passed}
+use Rattle.vrx_frames.specs.Run.{Packets, Run, Piece, begins, ends_frame, stands, stands_after_end, is_start, is_passed, summary_of}
 use Rattle.vrx_frames.specs.IsRun.{IsPiece, ArePieces, RunsAre}
 use Rattle.vrx_core.specs.machine.Standing.{began_after_end}
-use Rattle.vrx_core.specs.machine.Deliverable.{is_evident, is_deliverable, answer}
+use Rattle.vrx_refs.specs.References.{Key, Needs, Unknown, is_passed_before, is_some_pulled, judge_delta}
+use Rattle.vrx_buffer.specs.Frames.{is_ready}
+use Rattle.vrx_core.specs.machine.Told.{Told, sightings}
+use Rattle.vrx_core.specs.machine.Deliverable.{answer, is_deliverable, judged}
 use Rattle.vrx_core.specs.machine.Machine.{latest, last_pulled, frame_of, snapshots, times}
-use Rattle.vrx_core.specs.honest.Sender.{SentFrame, SentPacket, Media, Empty, Sender, IsOf}
+use Rattle.vrx_core.specs.honest.Sender.{SentFrame, SentPacket, Media, Fec, Empty, Sender, IsNoPart, IsOf}
 use Rattle.vrx_core.specs.honest.WireForm.{content_sent}
-use Rattle.vrx_core.specs.honest.Chain.{IsRuleReference, Leads, InChain}
+use Rattle.vrx_core.specs.honest.Chain.{IsRuleReference, Leads, RefersTo, InChain}
+use Rattle.vrx_core.specs.honest.Layers.{HaveNoLayers, IsKey, KeepsLayers, layers_at}
 use Rattle.vrx_core.specs.honest.HonestSender.{CarriedPart, IsPart, Travels, HonestSender}
 use Rattle.vrx_core.specs.honest.HonestNetwork.{Origin, greatest, packets_taken}
-use Rattle.vrx_core.specs.honest.Ready.{IsNumber, HasNumbers, SaysStart, BeginsEvidently, StandsComplete, Follows, Ready}
+use Rattle.vrx_core.specs.honest.Ready.{IsEvident, IsNumber, IsPassedUpTo, SaysStart, BeginsEvidently, StandsComplete, Ready, WasPulled}
+use Rattle.vrx_core.specs.honest.HonestTaken.{IsRepaired}
 use Rattle.vrx_core.specs.honest.HonestRuns.{IsFrameRun}
 use Rattle.vrx_core.specs.honest.HonestCall.{IsSentFrame, IsLeastReady}
 use Rattle.vrx_core.specs.declared.settings.Settings.{Settings}
 use Rattle.vrx_core.specs.declared.event.Event.{Event}
 use Rattle.vrx_core.proofs.machine.AnswerLemmas.{answer-given, answer-least, answer-none}
-use Rattle.vrx_core.proofs.machine.MemberLemmas.{Contains-head, Contains-either}
+use Rattle.vrx_core.proofs.machine.MemberLemmas.{Contains-empty, Contains-head, Contains-either}
 use Rattle.vrx_core.proofs.machine.TestLemmas.{list_any-from}
 use Rattle.vrx_core.proofs.machine.PulledLemmas.{beyond-every, beyond-last, stands-beyond}
 use Rattle.vrx_core.proofs.machine.StandingLemmas.{IsRunNow, stands_from, standing_is, standing-from, standing-to}
 use Rattle.vrx_core.proofs.honest.NumberLemmas.{IsNewestOf, IsNumber-upto}
-use Rattle.vrx_core.proofs.honest.KeepsLemmas.{near-number, one-number, one-place}
+use Rattle.vrx_core.proofs.honest.KeepsLemmas.{Came, near-number, one-number, one-place}
 use Rattle.vrx_core.proofs.honest.KeptLemmas.{kept-there}
-use Rattle.vrx_core.proofs.honest.PartLemmas.{IsSent, frame_spans, frame_travels, frame_upto, one_span, size, some_holds, some_from, some_there}
+use Rattle.vrx_core.proofs.honest.PartLemmas.{IsSent, frame_spans, frame_travels, frame_upto, one_span, part-of, size, some_holds, some_from, some_there}
 use Rattle.vrx_core.proofs.honest.FrameLemmas.{number_later, media_text, is_behind, FirstBehind, frame_run, frame-run, pieces-present, run-frame}
-use Rattle.vrx_core.proofs.honest.BeginLemmas.{there_tested, after_empty, behind_last, began_first, were_behind, first_begins, says_yes}
+use Rattle.vrx_core.proofs.honest.BeginLemmas.{there_tested, after_other, behind_last, began_first, were_behind, first_begins, says_yes}
+use Rattle.vrx_core.proofs.honest.PlaceLemmas.{available-came, same-place}
 use Rattle.vrx_core.proofs.honest.FrontLemmas.{IsFrontOf}
-use Rattle.vrx_core.proofs.honest.HoldsLemmas.{IsPulled, ArePulled, Holds, bound_of, bound_upto, frame_after}
+use Rattle.vrx_core.proofs.honest.HoldsLemmas.{IsPulled, ArePulled, Holds, below_bound, bound_of, bound_upto, frame_after}
+use Rattle.vrx_core.proofs.honest.LastLemmas.{placed, some_if}
+use Rattle.vrx_core.proofs.honest.EvidentLemmas.{has_reference, layers-from, layers-to, run_none, run_pulled, was-from, was-to}
 
 -- what holds of each of a list holds of one in it
 pub of_all : {X : Type 0} (P : X → Type 0) (xs : List X) (x : X) → All P xs → Contains xs x → P x
@@ -58,48 +66,74 @@ all_more {X = X} P Q xs more all = All-from_recursion Q xs (by_recursion xs (rec
   by_recursion (y ∷ ys) each = (more y each.0, by_recursion ys each.1)
 
 -- a run that stands and is a keyframe is deliverable
-deliverable_key : (pulled front : Option ℕ) (run : Run) → stands pulled run ≡ true → run.key ≡ true →
-    is_deliverable pulled front run ≡ true
-deliverable_key pulled front run beyond key =
-    and_from (stands pulled run) (run.key || (is_none run.layers && is_evident pulled front run)) beyond
-    (ap (λ b. b || (is_none run.layers && is_evident pulled front run)) key)
+deliverable_key : (told : Told) (pulled : List Run) (front : Option ℕ) (run : Run) →
+    stands (last_pulled pulled) run ≡ true → run.key ≡ true → is_deliverable told pulled front run ≡ true
+deliverable_key told pulled front run beyond key =
+    and_from (stands (last_pulled pulled) run) (is_ready (judged told pulled front run)) beyond
+    (ap (λ b. is_ready (cond b Key (judge_delta (sightings told) (map summary_of pulled) front run.first run.layers)))
+    key)
 
--- one test or another that holds
-or_right_true : (a b : Bool) → b ≡ true → (a || b) ≡ true
-or_right_true true b h = refl
-or_right_true false b h = h
+-- whether a run without layers is ready, if it isn't key
+evident_ready : (b : Bool) → b ≡ true → is_ready (cond b (Needs []) Unknown) ≡ true
+evident_ready true is = refl
+evident_ready false is = absurd (true≢false (sym is))
+
+ready_evident : (b : Bool) → is_ready (cond b (Needs []) Unknown) ≡ true → b ≡ true
+ready_evident true is = refl
+ready_evident false is = absurd (true≢false (sym is))
+
+-- the frames pulled, as they are told
+some_told : (pulled : List Run) → is_some_pulled (map summary_of pulled) ≡ is_some (last_pulled pulled)
+some_told [] = refl
+some_told (run ∷ runs) = refl
+
+passed_told : (front : Option ℕ) (n : ℕ) → is_passed_before front n ≡ is_passed front (n - 1)
+passed_told None n = refl
+passed_told (Some f) n = refl
 
 -- a run that stands, has no layers and evidently follows the last frame pulled is deliverable
-deliverable_next : (pulled front : Option ℕ) (run : Run) → stands pulled run ≡ true → run.layers ≡ None →
-    is_some pulled ≡ true → is_passed front (run.first - 1) ≡ true → is_deliverable pulled front run ≡ true
-deliverable_next pulled front run beyond layers some passed =
-    and_from (stands pulled run) (run.key || (is_none run.layers && is_evident pulled front run)) beyond
-    (or_right_true run.key (is_none run.layers && is_evident pulled front run)
-    (and_from (is_none run.layers) (is_evident pulled front run) (ap is_none layers)
-    (and_from (is_some pulled) (is_passed front (run.first - 1)) some passed)))
+deliverable_next : (told : Told) (pulled : List Run) (front : Option ℕ) (run : Run) →
+    stands (last_pulled pulled) run ≡ true → run.layers ≡ None → is_some (last_pulled pulled) ≡ true →
+    is_passed front (run.first - 1) ≡ true → is_deliverable told pulled front run ≡ true
+deliverable_next told pulled front run beyond layers some passed =
+    and_from (stands (last_pulled pulled) run) (is_ready (judged told pulled front run)) beyond (by run.key) where
+      here : is_ready (judge_delta (sightings told) (map summary_of pulled) front run.first run.layers) ≡ true
+      here = ap (λ o. is_ready (judge_delta (sightings told) (map summary_of pulled) front run.first o)) layers
+          ∙ evident_ready (is_some_pulled (map summary_of pulled) && is_passed_before front run.first)
+          (and_from (is_some_pulled (map summary_of pulled)) (is_passed_before front run.first)
+          (some_told pulled ∙ some) (passed_told front run.first ∙ passed))
 
--- a deliverable run that isn't key evidently follows the last frame pulled
-next_evident : (pulled front : Option ℕ) (run : Run) → is_deliverable pulled front run ≡ true → run.key ≡ false →
-    (is_some pulled ≡ true) × (is_passed front (run.first - 1) ≡ true)
-next_evident pulled front run h no_key =
-    let either : (run.key || (is_none run.layers && is_evident pulled front run)) ≡ true =
-    (and_parts (stands pulled run) (run.key || (is_none run.layers && is_evident pulled front run)) h).1 in
-    let second : (is_none run.layers && is_evident pulled front run) ≡ true =
-    sym (ap (λ b. b || (is_none run.layers && is_evident pulled front run)) no_key) ∙ either in
-    and_parts (is_some pulled) (is_passed front (run.first - 1))
-    (and_parts (is_none run.layers) (is_evident pulled front run) second).1
+      by : (b : Bool) → is_ready
+          (cond b Key (judge_delta (sightings told) (map summary_of pulled) front run.first run.layers)) ≡ true
+      by true = refl
+      by false = here
 
--- if no frame was pulled, a deliverable run is a keyframe
-pub first_key : (front : Option ℕ) (run : Run) → is_deliverable None front run ≡ true → run.key ≡ true
-first_key front run h = by_key run.key refl where
-  by_key : (b : Bool) → run.key ≡ b → b ≡ true
-  by_key true is = refl
-  by_key false is = absurd (true≢false (sym (next_evident None front run h is).0))
+-- a deliverable run without layers that isn't key evidently follows the last frame pulled
+next_evident : (told : Told) (pulled : List Run) (front : Option ℕ) (run : Run) →
+    is_deliverable told pulled front run ≡ true → run.key ≡ false → run.layers ≡ None →
+    (is_some (last_pulled pulled) ≡ true) × (is_passed front (run.first - 1) ≡ true)
+next_evident told pulled front run h no_key layers =
+    let ready : is_ready (judged told pulled front run) ≡ true =
+    (and_parts (stands (last_pulled pulled) run) (is_ready (judged told pulled front run)) h).1 in
+    let delta : is_ready (judge_delta (sightings told) (map summary_of pulled) front run.first run.layers) ≡ true =
+    sym (ap (λ b. is_ready
+    (cond b Key (judge_delta (sightings told) (map summary_of pulled) front run.first run.layers))) no_key) ∙ ready in
+    let plain : is_ready (judge_delta (sightings told) (map summary_of pulled) front run.first None) ≡ true =
+    sym (ap (λ o. is_ready (judge_delta (sightings told) (map summary_of pulled) front run.first o)) layers) ∙ delta in
+    let both = and_parts (is_some_pulled (map summary_of pulled)) (is_passed_before front run.first)
+    (ready_evident (is_some_pulled (map summary_of pulled) && is_passed_before front run.first) plain) in
+    (sym (some_told pulled) ∙ both.0, sym (passed_told front run.first) ∙ both.1)
 
 -- if a frame was pulled there is a last one
 last_there : (runs : List Run) (run : Run) → Contains runs run → is_some (last_pulled runs) ≡ true
 last_there [] run c = absurd (omega arith)
 last_there (r ∷ rs) run c = refl
+
+-- a number before one that is passed is passed
+passed_below : (front : Option ℕ) (m n : ℕ) → n ≤ m → is_passed front m ≡ true → is_passed front n ≡ true
+passed_below None m n upto passed = absurd (true≢false (sym passed))
+passed_below (Some front) m n upto passed =
+    let less : m ≤ front = leb-true m front passed in le-leb n front (omega (arith, less, upto))
 
 -- a number up to another, or after it
 before_or_behind : (n m : ℕ) → (n ≤ m) ⊎ (m < n)
@@ -108,20 +142,27 @@ before_or_behind (suc n) zero = inr (omega arith)
 before_or_behind (suc n) (suc m) =
     elim (before_or_behind n m) [ inl upto ↦ inl (omega arith) | inr less ↦ inr (omega arith) ]
 
+-- media is no FEC packet, and not empty
+no_fec_text : (text payload : List ℕ) → contents.Media text ≡ contents.Fec payload → ⊥
+no_fec_text text payload e = absurd (cc)
+
+no_text : (text : List ℕ) → contents.Media text ≡ contents.Empty → ⊥
+no_text text e = absurd (cc)
+
 module _ (are : RunsAre) (settings : Settings) (codec : Meaning) (sender : Sender)
     (honest : HonestSender settings codec sender) where
-  -- after the last frame pulled, and after the empty packets that follow it, stands a first part
-  passed_first : (js fs : List ℕ) (runs : List Run) (front : Option ℕ) (i n : ℕ)
-      (s : IsSent settings codec sender honest i) → ArePulled settings codec sender honest js fs runs →
+  -- after the last frame pulled, and after the packets that are no parts and follow it, stands a first part
+  passed_first : (js : List ℕ) (told : Told) (fs : List ℕ) (runs : List Run) (front : Option ℕ) (i n : ℕ)
+      (s : IsSent settings codec sender honest i) → ArePulled settings codec sender honest js told fs runs →
       IsFrontOf sender js (last_pulled runs) front → IfSome (last_pulled runs) (λ last. last < n) →
       IsNumber sender js i n → is_passed front (n - 1) ≡ true → s.k ≡ 0
-  passed_first js [] [] front i n s pulled of beyond numbered passed =
+  passed_first js told [] [] front i n s pulled of beyond numbered passed =
       absurd (true≢false (sym passed ∙ ap (λ o. is_passed o (n - 1)) of))
-  passed_first js [] (run ∷ runs) front i n s pulled of beyond numbered passed = absurd pulled
-  passed_first js (f ∷ fs) [] front i n s pulled of beyond numbered passed = absurd pulled
-  passed_first js (f ∷ fs) (run ∷ runs) None i n s pulled of beyond numbered passed = absurd of
-  passed_first js (f ∷ fs) (run ∷ runs) (Some front) i n s pulled of beyond numbered passed =
-      let p : IsPulled settings codec sender honest js f run = pulled.0 in
+  passed_first js told [] (run ∷ runs) front i n s pulled of beyond numbered passed = absurd pulled
+  passed_first js told (f ∷ fs) [] front i n s pulled of beyond numbered passed = absurd pulled
+  passed_first js told (f ∷ fs) (run ∷ runs) None i n s pulled of beyond numbered passed = absurd of
+  passed_first js told (f ∷ fs) (run ∷ runs) (Some front) i n s pulled of beyond numbered passed =
+      let p : IsPulled settings codec sender honest js told f run = pulled.0 in
       let upto : n - 1 ≤ front = leb-true (n - 1) front passed in
       elim (before_or_behind (n - 1) run.last) [
         | inl before ↦
@@ -133,21 +174,21 @@ module _ (are : RunsAre) (settings : Settings) (codec : Meaning) (sender : Sende
             one_span settings codec sender honest f p.sent p.numbered.from p.numbered.to p.is p.numbered.spans in
             behind_last settings codec sender honest i f p.sent p.is (same ∙ span.1) s
         | inr after ↦
-            let e : (j : ℕ) × IsNumber sender js j (n - 1) × (slice_get sender.packets j ≡ Some Empty) =
+            let e : (j : ℕ) × IsNumber sender js j (n - 1) × IsSomeAnd (slice_get sender.packets j) IsNoPart =
             of.1 (n - 1) after upto in
             let next : IsNumber sender js (e.0 + 1) n =
             number_later sender js e.0 (n - 1) 1 (e.0 + 1) n e.1 refl (omega arith) in
-            after_empty settings codec sender honest e.0 i e.2 (one-place sender js (e.0 + 1) i n next numbered) s
+            after_other settings codec sender honest e.0 i e.2 (one-place sender js (e.0 + 1) i n next numbered) s
       ]
 
-  -- a frame that follows another over empty packets is the next
-  next_over_empty : (js : List ℕ) (k f : ℕ) (frame : SentFrame) (to last first : ℕ) →
+  -- a frame that follows another over packets that are no parts is the next
+  next_over_others : (js : List ℕ) (k f : ℕ) (frame : SentFrame) (to last first : ℕ) →
       slice_get sender.frames f ≡ Some frame → k < f → IsNumber sender js to last →
       to + 1 ≡ honest.place k + size settings codec sender honest k → IsNumber sender js (honest.place f) first →
       last < first
       → ((m : ℕ) → last < m → m < first →
-      (i : ℕ) × IsNumber sender js i m × (slice_get sender.packets i ≡ Some Empty)) → k + 1 ≡ f
-  next_over_empty js k f frame to last first is less ends end_is numbered above empty =
+      (i : ℕ) × IsNumber sender js i m × IsSomeAnd (slice_get sender.packets i) IsNoPart) → k + 1 ≡ f
+  next_over_others js k f frame to last first is less ends end_is numbered above empty =
       elim (before_or_behind f (k + 1)) [
         | inl upto ↦ omega arith
         | inr between ↦
@@ -165,18 +206,21 @@ module _ (are : RunsAre) (settings : Settings) (codec : Meaning) (sender : Sende
             let there : IsNumber sender js (honest.place (k + 1)) (last + d) =
             number_later sender js to last d (honest.place (k + 1)) (last + d) ends (omega arith) refl in
             let below : last + d < first = near_first (honest.place (k + 1)) (last + d) there (omega arith) in
-            let inside_empty : slice_get sender.packets (honest.place (k + 1)) ≡ Some Empty =
-            at_empty (honest.place (k + 1)) (last + d) there (omega arith) below in
-            absurd (some_holds (IsOf (k + 1)) (slice_get sender.packets (honest.place (k + 1))) Empty inside_empty
+            let p : (packet : SentPacket) × (slice_get sender.packets (honest.place (k + 1)) ≡ Some packet)
+            × IsNoPart packet = some_there IsNoPart (slice_get sender.packets (honest.place (k + 1)))
+            (at_other (honest.place (k + 1)) (last + d) there (omega arith) below) in
+            absurd (part-of (k + 1) p.0 p.2
+            (some_holds (IsOf (k + 1)) (slice_get sender.packets (honest.place (k + 1))) p.0 p.1
             (((frame_spans settings codec sender honest (k + 1) _
             (slice_get-get_or sender.frames (k + 1) frame inside)).exactly (honest.place (k + 1))).1
-            (omega arith, omega arith)))
+            (omega arith, omega arith))))
       ] where
-        at_empty : (i m : ℕ) → IsNumber sender js i m → last < m → m < first → slice_get sender.packets i ≡ Some Empty
-        at_empty i m at_i above below =
-            let e : (j : ℕ) × IsNumber sender js j m × (slice_get sender.packets j ≡ Some Empty) =
+        at_other : (i m : ℕ) → IsNumber sender js i m → last < m → m < first →
+            IsSomeAnd (slice_get sender.packets i) IsNoPart
+        at_other i m at_i above below =
+            let e : (j : ℕ) × IsNumber sender js j m × IsSomeAnd (slice_get sender.packets j) IsNoPart =
             empty m above below in
-            subst (λ (j : ℕ). slice_get sender.packets j ≡ Some Empty) (one-place sender js e.0 i m e.1 at_i) e.2
+            subst (λ (j : ℕ). IsSomeAnd (slice_get sender.packets j) IsNoPart) (one-place sender js e.0 i m e.1 at_i) e.2
 
         near_first : (i m : ℕ) → IsNumber sender js i m → i + 1 ≤ honest.place f → m < first
         near_first i m at_i less =
@@ -193,6 +237,13 @@ module _ (are : RunsAre) (settings : Settings) (codec : Meaning) (sender : Sende
     abbrev packets_now : Packets
     packets_now = (latest (snapshots settings codec h)).window.packets
 
+    -- the places told, and the frames pulled
+    abbrev told_now : Told
+    told_now = (latest (snapshots settings codec h)).told
+
+    abbrev runs_pulled : List Run
+    runs_pulled = (latest (snapshots settings codec h)).pulled
+
     -- the runs that stand now
     abbrev pub runs_now : List Run
     runs_now = (latest (snapshots settings codec h)).standing
@@ -203,6 +254,10 @@ module _ (are : RunsAre) (settings : Settings) (codec : Meaning) (sender : Sende
 
     abbrev pub front_now : Option ℕ
     front_now = (latest (snapshots settings codec h)).front
+
+    -- the numbers repaired
+    abbrev rep : ℕ → Type 0
+    rep = IsRepaired (snapshots settings codec h)
 
     -- the packets taken
     abbrev js : List ℕ
@@ -215,7 +270,8 @@ module _ (are : RunsAre) (settings : Settings) (codec : Meaning) (sender : Sende
       from_one n available = by_taken js (latest (snapshots settings codec h)).window.newest holds.took.here.newest
           (holds.took.here.keeps.from n available) where
             by_taken : (taken : List ℕ) (o : Option ℕ) → IsNewestOf sender taken o →
-                (i : ℕ) × Contains taken i × IsNumber sender taken i n × (greatest taken < i + WINDOW) → 1 ≤ n
+                (i : ℕ) × Came taken (IsRepaired (snapshots settings codec h)) i n × IsNumber sender taken i n
+                × (greatest taken < i + WINDOW) → 1 ≤ n
             by_taken [] o newest p = absurd p.2
             by_taken (j ∷ others) o newest p =
                 let least : 65536 ≤ newest.0 = newest.2 in
@@ -228,7 +284,7 @@ module _ (are : RunsAre) (settings : Settings) (codec : Meaning) (sender : Sende
           FirstBehind settings codec sender js packets_now holds.took.here.kept honest front_now began from
       first_behind from beyond i n upto available numbered sent behind =
           elim (or_cases (is_passed front_now (n - 1)) (began n) behind) [
-            | inl passed ↦ passed_first js fs
+            | inl passed ↦ passed_first js told_now fs
                 (latest (snapshots settings codec h)).pulled front_now i n sent holds.pulled holds.front
                 (further pulled_now beyond) numbered passed
             | inr stood ↦ began_first settings codec sender honest js (snapshots settings codec h) i n sent
@@ -245,8 +301,9 @@ module _ (are : RunsAre) (settings : Settings) (codec : Meaning) (sender : Sende
 
       -- a run that stands is a frame of the sender
       pub frame_is : (run : Run) → Contains runs_now run → (f : ℕ) × IsFrameRun sender js f run
-      frame_is run there = run-frame settings codec sender js packets_now holds.took.here.kept honest front_now began
-          run (first_behind run.first (stands-beyond pulled_now run (stood run there).1)) (stood run there).0
+      frame_is run there = run-frame settings codec sender js packets_now holds.took.here.kept honest rep
+          told_now holds.took.here.keeps holds.took.told front_now began run
+          (first_behind run.first (stands-beyond pulled_now run (stood run there).1)) (stood run there).0
 
       -- if it is evident that a frame begins with its first packet, its first part is a start
       evident_begins : (f first : ℕ) (frame : SentFrame) → slice_get sender.frames f ≡ Some frame →
@@ -301,14 +358,15 @@ module _ (are : RunsAre) (settings : Settings) (codec : Meaning) (sender : Sende
           one-number sender js c.numbered.to c.last
           (c.first + length (honest.parts f) - 1) c.numbered.last_is last in
           let run : Run =
-          frame_run settings codec sender js packets_now holds.took.here.kept c.frame c.first (honest.parts f) in
+          frame_run settings codec sender js packets_now holds.took.here.kept told_now c.frame c.first
+          (honest.parts f) in
           let beyond : stands pulled_now run ≡ true =
           stands_from pulled_now run (beyond-last pulled c.first c.beyond) in
           record {
             run = run;
             there = standing-to are codec (snapshots settings codec h) (standing_is settings codec h) run
-                (frame-run settings codec sender js packets_now holds.took.here.kept honest front_now began f c.frame
-                c.first c.sent
+                (frame-run settings codec sender js packets_now holds.took.here.kept honest told_now front_now
+                began f c.frame c.first c.sent
                 (first_behind c.first (beyond-last pulled c.first c.beyond))
                 (evident_begins f c.first c.frame c.sent first
                 (from_one c.first (c.available c.first (omega arith) (omega arith)))
@@ -328,7 +386,11 @@ module _ (are : RunsAre) (settings : Settings) (codec : Meaning) (sender : Sende
               ts = refl;
               key = refl;
               bytes = refl;
-              layers = refl;
+              layers = same-place sender js rep told_now holds.took.told (honest.place f) c.first f c.frame c.sent
+                  (available-came sender js rep packets_now (honest.place f) c.first holds.took.here.keeps first
+                  (c.available c.first (omega arith) (omega arith))) first
+                  (((frame_spans settings codec sender honest f c.frame c.sent).exactly (honest.place f)).1
+                  (omega arith, omega (arith, some)));
             };
             first_is = refl;
           }
@@ -352,97 +414,185 @@ module _ (are : RunsAre) (settings : Settings) (codec : Meaning) (sender : Sende
             let more : last ≤ front = of.0 in
             le-leb n front (omega arith)
 
-      -- a frame that follows a rule reference has the number before it passed
-      follows_passed : (g first : ℕ) (follows : Follows settings codec sender h origins g first) →
-          follows.run.last < first → is_passed front_now (first - 1) ≡ true
-      follows_passed g first follows less = elim (before_or_behind (first - 1) follows.run.last) [
-        | inl upto ↦ pulled-passed follows.run (first - 1) follows.pulled upto
-        | inr after ↦ follows.evident (first - 1) after (omega arith)
+      -- if the numbers between a frame that was pulled and another one are passed, so is that before the other
+      was_passed : (g first : ℕ) (was : WasPulled settings codec sender h origins g) → was.run.last < first →
+          IsPassedUpTo settings codec sender h origins g first → is_passed front_now (first - 1) ≡ true
+      was_passed g first was less passed = elim (before_or_behind (first - 1) was.run.last) [
+        | inl upto ↦ pulled-passed was.run (first - 1) was.pulled upto
+        | inr after ↦ passed was (first - 1) after (omega arith)
+      ]
+
+      -- each number of a whole frame is available
+      run_available : (run : Run) → IsRunNow codec (snapshots settings codec h) run → (n : ℕ) → run.first ≤ n →
+          n ≤ run.last → is_available n packets_now ≡ true
+      run_available run r n from upto =
+          let to : run.first + length r.pieces ≡ run.last + 1 = r.to_last in
+          pieces-present codec packets_now run.first n r.pieces r.from_first from (omega arith)
+
+      first_available : (run : Run) → IsRunNow codec (snapshots settings codec h) run →
+          is_available run.first packets_now ≡ true
+      first_available run r = run_available run r run.first (omega arith) r.not_empty
+
+      -- a frame that stands comes after those that were pulled
+      stands_later : (f : ℕ) (run : Run) → IsFrameRun sender js f run → stands pulled_now run ≡ true →
+          bound_of settings codec sender honest fs ≤ f
+      stands_later f run is beyond = bound_upto settings codec sender honest js told_now fs runs_pulled f is.frame run
+          holds.pulled is.sent (first_place f run is) beyond
+
+      beyond_pulled : (f : ℕ) (run : Run) → IsFrameRun sender js f run → stands pulled_now run ≡ true → (g : ℕ) →
+          Contains fs g → g < f
+      beyond_pulled f run is beyond g there =
+          below_bound settings codec sender honest fs f g holds.fall (stands_later f run is beyond) there
+
+      -- the first frame is a keyframe
+      first_is_key : (frame : SentFrame) → slice_get sender.frames 0 ≡ Some frame → frame.key ≡ true
+      first_is_key frame there = some_if (λ x. x.key ≡ true) (slice_get sender.frames 0) frame there honest.from_key
+
+      -- of frames without layers each that is no keyframe has the one before it as its rule reference, and no other
+      module _ (none : HaveNoLayers sender.frames) (f : ℕ) (frame : SentFrame)
+          (there : slice_get sender.frames f ≡ Some frame) where
+        no_layers : frame.layers ≡ None
+        no_layers = some_if (λ x. x.layers ≡ None) (slice_get sender.frames f) frame there (none f)
+
+        refers_before : (g : ℕ) → frame.key ≡ false → g + 1 ≡ f → IsRuleReference sender f g
+        refers_before g is at = some_from (λ x. (x.key ≡ false) × RefersTo sender.frames x.layers f g)
+            (slice_get sender.frames f) frame there
+            (is, subst (λ (o : Option Place). RefersTo sender.frames o f g) (sym no_layers) at)
+
+        before_refers : (g : ℕ) → IsRuleReference sender f g → (frame.key ≡ false) × (g + 1 ≡ f)
+        before_refers g reference =
+            let both : (frame.key ≡ false) × RefersTo sender.frames frame.layers f g =
+            some_holds (λ x. (x.key ≡ false) × RefersTo sender.frames x.layers f g) (slice_get sender.frames f) frame
+            there reference in
+            (both.0, subst (λ (o : Option Place). RefersTo sender.frames o f g) no_layers both.1)
+
+        has_before : frame.key ≡ false → (g : ℕ) × IsRuleReference sender f g
+        has_before is = by f refl where
+          by : (k : ℕ) → f ≡ k → (g : ℕ) × IsRuleReference sender f g
+          by zero at = absurd (true≢false
+              (sym (first_is_key frame (ap (slice_get sender.frames) (sym at) ∙ there)) ∙ is))
+          by (suc k) at = (k, refers_before k is (omega (arith, at)))
+
+      -- each frame that is no keyframe has a rule reference
+      some_reference : (f : ℕ) (frame : SentFrame) → slice_get sender.frames f ≡ Some frame → frame.key ≡ false →
+          (g : ℕ) × IsRuleReference sender f g
+      some_reference f frame there is = elim honest.layers [
+        | inl keeps ↦
+            let p : (place : Place) × (layers_at sender.frames f ≡ Some place) × (place.tl0 < 256)
+            × (IsKey sender.frames f → place.tid ≡ 0) =
+            placed sender.frames keeps f (slice_get_within sender.frames f frame there) in
+            has_reference sender keeps honest.from_key f p.0 p.1
+            (λ key. true≢false (sym (some_holds (λ x. x.key ≡ true) (slice_get sender.frames f) frame there key) ∙ is))
+        | inr none ↦ has_before none f frame there is
       ]
 
       -- the run of a ready frame is deliverable
-      ready_deliverable : (f : ℕ) (ready : Ready settings codec sender h origins f)
-          (r : IsRunOf f ready.complete.first) → is_deliverable pulled_now front_now r.run ≡ true
-      ready_deliverable f ready r = by_key f ready r (r.is_frame.frame.key) refl where
-        by_follow : (f g first : ℕ) (r : IsRunOf f first) →
-            ((run : Run) → Contains (latest (snapshots settings codec h)).pulled run → run.last < first) →
-            Follows settings codec sender h origins g first → is_deliverable pulled_now front_now r.run ≡ true
-        by_follow f g first r beyond follows =
-            deliverable_next pulled_now front_now r.run r.beyond r.is_frame.layers
-            (last_there (latest (snapshots settings codec h)).pulled follows.run follows.pulled)
-            (subst (λ (n : ℕ). is_passed front_now (n - 1) ≡ true) (sym r.first_is)
-            (follows_passed g first follows (beyond follows.run follows.pulled)))
+      module _ (f : ℕ) (ready : Ready settings codec sender h origins f) (r : IsRunOf f ready.complete.first) where
+        abbrev c : StandsComplete settings codec sender h origins f
+        c = ready.complete
 
-        by_key : (f : ℕ) (ready : Ready settings codec sender h origins f) (r : IsRunOf f ready.complete.first)
-            (b : Bool) → r.is_frame.frame.key ≡ b → is_deliverable pulled_now front_now r.run ≡ true
-        by_key f ready r true is = deliverable_key pulled_now front_now r.run r.beyond (r.is_frame.key ∙ is)
-        by_key zero ready r false is =
-            absurd (true≢false (sym (first_is_key r.is_frame.frame r.is_frame.sent) ∙ is)) where
-              first_is_key : (frame : SentFrame) → slice_get sender.frames 0 ≡ Some frame → frame.key ≡ true
-              first_is_key frame there = here (slice_get sender.frames 0) there honest.from_key where
-                here : (o : Option SentFrame) → o ≡ Some frame → IfSome o (λ x. x.key ≡ true) → frame.key ≡ true
-                here None none k = absurd (none-some frame none)
-                here (Some x) some k = ap (λ (y : SentFrame). y.key) (sym (same_frame x some)) ∙ k where
-                  same_frame : (x : SentFrame) → ◌≡◌ {A = Option SentFrame} (Some x) (Some frame) → x ≡ frame
-                  same_frame x e = same_Some x frame e
-        by_key (suc g) ready r false is =
-            by_follow (suc g) g ready.complete.first r
-            (λ run there. of_all (λ x. x.last < ready.complete.first)
-            (latest (snapshots settings codec h)).pulled run ready.complete.beyond there)
-            (ready.follows g (some_from (λ frame. (frame.key ≡ false) × (g + 1 ≡ suc g))
-            (slice_get sender.frames (suc g)) r.is_frame.frame r.is_frame.sent (is, omega arith)))
+        now : IsRunNow codec (snapshots settings codec h) r.run
+        now = (stood r.run r.there).0
+
+        same_frame : c.frame ≡ r.is_frame.frame
+        same_frame = same_Some c.frame r.is_frame.frame (sym c.sent ∙ r.is_frame.sent)
+
+        module _ (delta : r.is_frame.frame.key ≡ false) where
+          evident : IsEvident settings codec sender h origins f r.run.first r.is_frame.frame.layers
+          evident = subst (λ (x : SentFrame). IsEvident settings codec sender h origins f r.run.first x.layers)
+              same_frame (subst (λ (n : ℕ). IsEvident settings codec sender h origins f n c.frame.layers)
+              (sym r.first_is) (ready.evident (ap (λ (x : SentFrame). x.key) same_frame ∙ delta)))
+
+          -- with layers
+          layers_deliverable : KeepsLayers sender.frames → is_deliverable told_now runs_pulled front_now r.run ≡ true
+          layers_deliverable keeps =
+              layers-to settings codec sender honest h origins fs holds r.run f r.is_frame.frame r.is_frame.sent
+              r.is_frame.numbered r.is_frame.key now.layers (first_available r.run now) keeps delta
+              (beyond_pulled f r.run r.is_frame r.beyond) r.beyond evident
+              (λ g reference. was-from settings codec sender honest h origins fs holds g (ready.pulled g reference))
+
+          -- and without
+          none_deliverable : HaveNoLayers sender.frames → is_deliverable told_now runs_pulled front_now r.run ≡ true
+          none_deliverable none =
+              let g : (g : ℕ) × IsRuleReference sender f g = has_before none f r.is_frame.frame r.is_frame.sent delta in
+              let at : g.0 + 1 ≡ f = (before_refers none f r.is_frame.frame r.is_frame.sent g.0 g.1).1 in
+              let was : WasPulled settings codec sender h origins g.0 = ready.pulled g.0 g.1 in
+              let passed : IsPassedUpTo settings codec sender h origins g.0 r.run.first =
+              subst (λ (o : Option Place). IsEvident settings codec sender h origins f r.run.first o)
+              (no_layers none f r.is_frame.frame r.is_frame.sent) evident g.0 at in
+              let less : was.run.last < r.run.first =
+              subst (λ (n : ℕ). was.run.last < n) (sym r.first_is)
+              (of_all (λ x. x.last < c.first) runs_pulled was.run c.beyond was.pulled) in
+              deliverable_next told_now runs_pulled front_now r.run r.beyond
+              (run_none settings codec sender honest h origins fs holds r.run f r.is_frame.frame r.is_frame.sent
+              r.is_frame.numbered r.is_frame.key now.layers (first_available r.run now) none)
+              (last_there runs_pulled was.run was.pulled)
+              (was_passed g.0 r.run.first was less passed)
+
+        ready_deliverable : is_deliverable told_now runs_pulled front_now r.run ≡ true
+        ready_deliverable = by_key r.is_frame.frame.key refl where
+          by_key : (b : Bool) → r.is_frame.frame.key ≡ b → is_deliverable told_now runs_pulled front_now r.run ≡ true
+          by_key true is = deliverable_key told_now runs_pulled front_now r.run r.beyond (r.is_frame.key ∙ is)
+          by_key false is = elim honest.layers [
+            | inl keeps ↦ layers_deliverable is keeps
+            | inr none ↦ none_deliverable is none
+          ]
 
       -- if no run is deliverable, no frame is ready
-      pub none_ready : answer pulled_now front_now runs_now ≡ None → (f : ℕ) →
+      pub none_ready : answer told_now runs_pulled front_now runs_now ≡ None → (f : ℕ) →
           Ready settings codec sender h origins f → ⊥
       none_ready none f ready =
           let r : IsRunOf f ready.complete.first = complete_run f ready.complete in
-          both_ways (is_deliverable pulled_now front_now r.run)
-          (answer-none pulled_now front_now runs_now none r.run r.there) (ready_deliverable f ready r)
+          both_ways (is_deliverable told_now runs_pulled front_now r.run)
+          (answer-none told_now runs_pulled front_now runs_now none r.run r.there) (ready_deliverable f ready r)
 
-      -- the last frame pulled is a rule reference's
-      pub record IsLastPulled (g first : ℕ) : Type 0 where
-        pub among : Contains fs g
-        pub follows : Follows settings codec sender h origins g first
-
-      module _ (run : Run) (is : answer pulled_now front_now runs_now ≡ Some run) (f : ℕ)
+      module _ (run : Run) (is : answer told_now runs_pulled front_now runs_now ≡ Some run) (f : ℕ)
           (is_frame : IsFrameRun sender js f run) where
         -- the run that a pull answers is deliverable, and stands
-        pub answer_deliverable : is_deliverable pulled_now front_now run ≡ true
-        answer_deliverable = (answer-given pulled_now front_now runs_now run is).1
+        pub answer_deliverable : is_deliverable told_now runs_pulled front_now run ≡ true
+        answer_deliverable = (answer-given told_now runs_pulled front_now runs_now run is).1
 
         pub answer_stands : stands pulled_now run ≡ true
         answer_stands = (and_parts (stands pulled_now run) _ answer_deliverable).0
 
         -- it is a whole frame
         answer_run : IsRunNow codec (snapshots settings codec h) run
-        answer_run = (stood run (answer-given pulled_now front_now runs_now run is).0).0
+        answer_run = (stood run (answer-given told_now runs_pulled front_now runs_now run is).0).0
 
         -- each of its numbers is available
         answer_available : (n : ℕ) → run.first ≤ n → n ≤ run.last → is_available n packets_now ≡ true
-        answer_available n from upto =
-            let to : run.first + length answer_run.pieces ≡ run.last + 1 = answer_run.to_last in
-            pieces-present codec packets_now run.first n answer_run.pieces answer_run.from_first from (omega arith)
+        answer_available = run_available run answer_run
 
-        -- the last frame pulled is its rule reference, and it follows it
-        last_follows : (g : ℕ) → IsRuleReference sender f g → IsLastPulled g run.first
-        last_follows g reference =
-            by_runs fs (latest (snapshots settings codec h)).pulled front_now holds.pulled holds.front refl refl
-            refl where
-              says : (is_frame.frame.key ≡ false) × (g + 1 ≡ f)
-              says = some_holds (λ frame. (frame.key ≡ false) × (g + 1 ≡ f))
-                  (slice_get sender.frames f) is_frame.frame is_frame.sent reference
+        -- if the frames have layers, it is evident to what it refers, and that was pulled
+        layers_known : KeepsLayers sender.frames → is_frame.frame.key ≡ false →
+            IsEvident settings codec sender h origins f run.first is_frame.frame.layers
+            × ((g : ℕ) → IsRuleReference sender f g → Contains fs g)
+        layers_known keeps delta =
+            layers-from settings codec sender honest h origins fs holds run f is_frame.frame is_frame.sent
+            is_frame.numbered is_frame.key answer_run.layers (first_available run answer_run) keeps delta
+            (beyond_pulled f run is_frame answer_stands) answer_deliverable
 
-              evident : (is_some pulled_now ≡ true) × (is_passed front_now (run.first - 1) ≡ true)
-              evident = next_evident pulled_now front_now run answer_deliverable (is_frame.key ∙ says.0)
+        -- if they have none, it evidently follows the last frame pulled
+        follows_last : HaveNoLayers sender.frames → is_frame.frame.key ≡ false →
+            (is_some pulled_now ≡ true) × (is_passed front_now (run.first - 1) ≡ true)
+        follows_last none delta = next_evident told_now runs_pulled front_now run answer_deliverable
+            (is_frame.key ∙ delta)
+            (run_none settings codec sender honest h origins fs holds run f is_frame.frame is_frame.sent
+            is_frame.numbered is_frame.key answer_run.layers (first_available run answer_run) none)
+
+        -- which is its rule reference
+        none_among : HaveNoLayers sender.frames → is_frame.frame.key ≡ false → (g : ℕ) → g + 1 ≡ f → Contains fs g
+        none_among none delta g at =
+            by_runs fs runs_pulled front_now holds.pulled holds.front refl refl refl where
+              last : (is_some pulled_now ≡ true) × (is_passed front_now (run.first - 1) ≡ true)
+              last = follows_last none delta
 
               by_runs : (places : List ℕ) (runs : List Run) (front : Option ℕ) →
-                  ArePulled settings codec sender honest js places runs →
+                  ArePulled settings codec sender honest js told_now places runs →
                   IsFrontOf sender js (last_pulled runs) front →
-                  front_now ≡ front → (latest (snapshots settings codec h)).pulled ≡ runs → fs ≡ places →
-                  IsLastPulled g run.first
+                  front_now ≡ front → runs_pulled ≡ runs → fs ≡ places → Contains fs g
               by_runs [] [] front p of same there those =
-                  absurd (true≢false (sym evident.0 ∙ ap (λ rs. is_some (last_pulled rs)) there))
+                  absurd (true≢false (sym last.0 ∙ ap (λ rs. is_some (last_pulled rs)) there))
               by_runs [] (old ∷ runs) front p of same there those = absurd p
               by_runs (k ∷ ks) [] front p of same there those = absurd p
               by_runs (k ∷ ks) (old ∷ runs) None p of same there those = absurd of
@@ -451,37 +601,46 @@ module _ (are : RunsAre) (settings : Settings) (codec : Meaning) (sender : Sende
                   subst (λ rs. IfSome (last_pulled rs) (λ last. last < run.first)) there
                   (stands-beyond pulled_now run answer_stands) in
                   let passed : run.first - 1 ≤ front =
-                  leb-true (run.first - 1) front (sym (ap (λ o. is_passed o (run.first - 1)) same) ∙ evident.1) in
+                  leb-true (run.first - 1) front (sym (ap (λ o. is_passed o (run.first - 1)) same) ∙ last.1) in
                   let less : k < f = frame_after settings codec sender honest js k f p.0.sent is_frame.frame old.first
                   old.last run.first p.0.is p.0.numbered is_frame.sent (first_place f run is_frame) beyond in
                   let span = one_span settings codec sender honest k p.0.sent p.0.numbered.from p.0.numbered.to p.0.is
                   p.0.numbered.spans in
-                  let k_is : k + 1 ≡ f = next_over_empty js k f is_frame.frame p.0.numbered.to old.last run.first
+                  let k_is : k + 1 ≡ f = next_over_others js k f is_frame.frame p.0.numbered.to old.last run.first
                   is_frame.sent less p.0.numbered.last_is span.1 (first_place f run is_frame) beyond
                   (λ m above below. of.1 m above (omega arith)) in
-                  let g_is : g + 1 ≡ f = says.1 in
                   let same_place : k ≡ g = omega arith in
-                  record {
-                    among = subst (λ xs. Contains xs g) (sym those)
-                        (subst (λ (x : ℕ). Contains (k ∷ ks) x) same_place (Contains-head k ks));
-                    follows = record {
-                      run = old;
-                      pulled = subst (λ xs. Contains xs old) (sym there) (Contains-head old runs);
-                      numbered = subst (λ (x : ℕ). HasNumbers sender js x old.first old.last) same_place p.0.numbered;
-                      evident = λ n above below. ap (λ o. is_passed o n) same ∙ le-leb n front (omega arith);
-                    };
-                  }
+                  subst (λ xs. Contains xs g) (sym those)
+                  (subst (λ (x : ℕ). Contains (k ∷ ks) x) same_place (Contains-head k ks))
 
-        -- each rule reference of the frame is the last one pulled
-        reference_last : (g : ℕ) → IsRuleReference sender f g → IsLastPulled g run.first
-        reference_last g reference = last_follows g reference
+        -- each rule reference of the frame was pulled
+        reference_among : (g : ℕ) → IsRuleReference sender f g → Contains fs g
+        reference_among g reference = elim honest.layers [
+          | inl keeps ↦ (layers_known keeps (some_holds (λ x. (x.key ≡ false) × RefersTo sender.frames x.layers f g)
+              (slice_get sender.frames f) is_frame.frame is_frame.sent reference).0).1 g reference
+          | inr none ↦
+              let before : (is_frame.frame.key ≡ false) × (g + 1 ≡ f) =
+              before_refers none f is_frame.frame is_frame.sent g reference in
+              none_among none before.0 g before.1
+        ]
+
+        -- and it is evident to what it refers
+        answer_evident : is_frame.frame.key ≡ false →
+            IsEvident settings codec sender h origins f run.first is_frame.frame.layers
+        answer_evident delta = elim honest.layers [
+          | inl keeps ↦ (layers_known keeps delta).0
+          | inr none ↦ subst (λ (o : Option Place). IsEvident settings codec sender h origins f run.first o)
+              (sym (no_layers none f is_frame.frame is_frame.sent))
+              (λ g at was n above below. passed_below front_now (run.first - 1) n (omega (arith, below))
+              (follows_last none delta).1)
+        ]
 
         -- its chain was pulled
         pub answer_chain : (g : ℕ) → InChain sender f g → Contains fs g
         answer_chain g chain = by_way chain.0 chain.1 where
           by_way : (way : List ℕ) → Leads sender f way g → Contains fs g
-          by_way [] leads = (reference_last g leads).among
-          by_way (k ∷ ks) leads = holds.closed k g (reference_last k leads.0).among (ks, leads.1)
+          by_way [] leads = reference_among g leads
+          by_way (k ∷ ks) leads = holds.closed k g (reference_among k leads.0) (ks, leads.1)
 
         -- and so were its references
         pub answer_references : IfSome (slice_get sender.frames f)
@@ -517,11 +676,12 @@ module _ (are : RunsAre) (settings : Settings) (codec : Meaning) (sender : Sende
               ap media_text (same_Some (contents.Media piece.text) (contents.Media text)
               (sym piece.media ∙ there)) in
               (p.packet, p.part, sym (ap read same) ∙ piece.reads, piece.part_reads, start_is)
+          says (Fec payload) there start_is =
+              absurd (no_fec_text piece.text payload
+              (same_Some (contents.Media piece.text) (contents.Fec payload) (sym piece.media ∙ there)))
           says Empty there start_is =
               absurd (no_text piece.text
-              (same_Some (contents.Media piece.text) contents.Empty (sym piece.media ∙ there))) where
-                no_text : (text : List ℕ) → contents.Media text ≡ contents.Empty → ⊥
-                no_text text e = absurd (cc)
+              (same_Some (contents.Media piece.text) contents.Empty (sym piece.media ∙ there)))
 
           sent_says : p.part.start ≡ Yes → IsSomeAnd (slice_get sender.packets i) (SaysStart codec)
           sent_says start_is =
@@ -575,7 +735,9 @@ module _ (are : RunsAre) (settings : Settings) (codec : Meaning) (sender : Sende
             beyond = beyond-every are settings codec h run.first (stands-beyond pulled_now run answer_stands);
             begins = answer_begins is_frame.numbered.from is_frame.numbered.first_is;
           };
-          follows = λ g reference. (reference_last g reference).follows;
+          pulled = λ g reference.
+              was-to settings codec sender honest h origins fs holds g (reference_among g reference);
+          evident = answer_evident;
         }
 
         -- no earlier frame is ready
@@ -583,7 +745,7 @@ module _ (are : RunsAre) (settings : Settings) (codec : Meaning) (sender : Sende
         answer_first g ready =
             let r : IsRunOf g ready.complete.first = complete_run g ready.complete in
             let upto : run.first ≤ r.run.first =
-            answer-least pulled_now front_now runs_now run r.run is r.there (ready_deliverable g ready r) in
+            answer-least told_now runs_pulled front_now runs_now run r.run is r.there (ready_deliverable g ready r) in
             frame_upto settings codec sender honest f g r.is_frame.frame r.is_frame.sent
             (slice_get_within sender.frames f is_frame.frame is_frame.sent)
             (IsNumber-upto sender js (honest.place f) (honest.place g) run.first r.run.first
@@ -607,21 +769,19 @@ module _ (are : RunsAre) (settings : Settings) (codec : Meaning) (sender : Sende
 
         -- it comes after those that were pulled
         pub answer_later : bound_of settings codec sender honest fs ≤ f
-        answer_later = bound_upto settings codec sender honest js fs
-            (latest (snapshots settings codec h)).pulled f is_frame.frame run holds.pulled is_frame.sent
-            (first_place f run is_frame) answer_stands
+        answer_later = stands_later f run is_frame answer_stands
 
         -- it is then the last frame pulled
-        pub answer_pulled : IsPulled settings codec sender honest js f run
-        answer_pulled = record { sent = is_frame.frame; is = is_frame.sent; numbered = is_frame.numbered }
+        pub answer_pulled : IsPulled settings codec sender honest js told_now f run
+        answer_pulled = run_pulled settings codec sender honest h origins fs holds run f is_frame.frame is_frame.sent
+            is_frame.numbered is_frame.key answer_run.layers (first_available run answer_run)
 
         -- the first frame pulled is a keyframe
         pub answer_key : fs ≡ [] → run.key ≡ true
-        answer_key none = first_key front_now run
-            (subst (λ (o : Option ℕ). is_deliverable o front_now run ≡ true)
-            (no_last fs (latest (snapshots settings codec h)).pulled holds.pulled none) answer_deliverable) where
-              no_last : (places : List ℕ) (runs : List Run) → ArePulled settings codec sender honest js places runs →
-                  places ≡ [] → last_pulled runs ≡ None
-              no_last [] [] p e = refl
-              no_last [] (old ∷ runs) p e = absurd p
-              no_last (k ∷ ks) runs p e = absurd (cc)
+        answer_key none = by_key run.key refl where
+          by_key : (b : Bool) → run.key ≡ b → b ≡ true
+          by_key true is = refl
+          by_key false is =
+              let g : (g : ℕ) × IsRuleReference sender f g =
+              some_reference f is_frame.frame is_frame.sent (sym is_frame.key ∙ is) in
+              absurd (Contains-empty g.0 (subst (λ (xs : List ℕ). Contains xs g.0) none (reference_among g.0 g.1)))

@@ -5,12 +5,12 @@ use Rattle.std.specs.List.{list_any}
 use Rattle.std.specs.Option.{option_map, option_and_then}
 use Rattle.std.proofs.lemmas.Bool.{or_parts, both_ways, eq-eqb}
 use Rattle.std.proofs.lemmas.Option.{none-some, same_Some}
-use Rattle.vrx_core.specs.machine.SettingsFault.{values_in, types_of, ssrcs_of, is_bad_type, holds, has_equal, lacks_red, is_bad_interval, is_later, first_of, fault_of}
+use Rattle.vrx_core.specs.machine.SettingsFault.{values_in, types_of, ssrcs_of, is_bad_type, holds, has_equal, lacks_red, is_bad_interval, first_of, fault_of}
 use Rattle.vrx_core.specs.declared.settings.Red.{Red}
 use Rattle.vrx_core.specs.declared.settings.Rtx.{Rtx}
 use Rattle.vrx_core.specs.declared.settings.Settings.{Settings}
 use Rattle.vrx_core.specs.declared.settings.NewFault.{NewFault}
-use Rattle.vrx_core.specs.declared.settings.NewFault.TheVariants.{BadType, SameType, SameSsrc, RedMissing, BadInterval, Later}
+use Rattle.vrx_core.specs.declared.settings.NewFault.TheVariants.{BadType, SameType, SameSsrc, RedMissing, BadInterval}
 
 -- if no test finds a fault, the first doesn't, and those after it don't
 none_first : (test : Bool) (fault : NewFault) (others : Option NewFault) → first_of test fault others ≡ None →
@@ -73,7 +73,7 @@ module _ (settings : Settings) (good : fault_of settings ≡ None) where
   -- the faults after a test
   abbrev after_ssrc : Option NewFault
   after_ssrc = first_of (lacks_red settings) RedMissing
-      (first_of (is_bad_interval settings.interval) BadInterval (first_of (is_later settings) Later None))
+      (first_of (is_bad_interval settings.interval) BadInterval None)
 
   abbrev after_same : Option NewFault
   after_same = first_of (has_equal (ssrcs_of settings)) SameSsrc after_ssrc
@@ -101,6 +101,16 @@ module _ (settings : Settings) (good : fault_of settings ≡ None) where
   pub red-good : (red : Red) → settings.red ≡ Some red → is_bad_type red.red_type ≡ false
   red-good red given = good_at types 1 red.red_type (red_there red given) none_bad.0
 
+  -- nor that of FEC
+  fec_there : (red : Red) (type : ℕ) → settings.red ≡ Some red → red.fec_type ≡ Some type →
+      slice_get types 2 ≡ Some (Some type)
+  fec_there red type given has =
+      ap (λ (o : Option Red). Some (option_and_then (λ red. red.fec_type) o)) given ∙ ap Some has
+
+  pub fec-good : (red : Red) (type : ℕ) → settings.red ≡ Some red → red.fec_type ≡ Some type →
+      is_bad_type type ≡ false
+  fec-good red type given has = good_at types 2 type (fec_there red type given has) none_bad.0
+
   -- nor those of retransmissions, of media and of RED
   rtx_there : (rtx : Rtx) → settings.rtx ≡ Some rtx → slice_get types 3 ≡ Some (Some rtx.media_rtx_type)
   rtx_there rtx given = ap (λ (o : Option Rtx). Some (option_map (λ rtx. rtx.media_rtx_type) o)) given
@@ -121,6 +131,12 @@ module _ (settings : Settings) (good : fault_of settings ≡ None) where
   pub red-apart : (red : Red) → settings.red ≡ Some red → red.red_type ≢ settings.media_type
   red-apart red given =
       apart_at types 0 1 settings.media_type red.red_type (omega arith) refl (red_there red given) none_same.0
+
+  -- FEC has another type than media
+  pub fec-apart : (red : Red) (type : ℕ) → settings.red ≡ Some red → red.fec_type ≡ Some type →
+      type ≢ settings.media_type
+  fec-apart red type given has = apart_at types 0 2 settings.media_type type (omega arith) refl
+      (fec_there red type given has) none_same.0
 
   -- RED comes again under another type than media
   pub red_rtx-apart : (rtx : Rtx) (type : ℕ) → settings.rtx ≡ Some rtx → rtx.red_rtx_type ≡ Some type →

@@ -14,9 +14,9 @@ use Rattle.vrx_frames.specs.Run.{Run, summary_of}
 use Rattle.vrx_core.specs.machine.KeyRequest.{has_key_beyond, is_answered}
 use Rattle.vrx_core.specs.machine.Machine.{Snapshot, last_pulled, latest, snapshots}
 use Rattle.vrx_core.specs.machine.PulledRise.{Rise}
-use Rattle.vrx_core.specs.relation.Order.{greatest_of, rises_by}
+use Rattle.vrx_buffer.specs.Order.{greatest_of, rises_by}
 use Rattle.vrx_core.specs.relation.StandsFor.{last_key}
-use Rattle.vrx_core.specs.inside.Kept.{key_numbers}
+use Rattle.vrx_buffer.specs.Frames.{key_numbers}
 use Rattle.vrx_core.specs.inside.Wants.{is_lost_open, is_open, last_of, later_of}
 use Rattle.vrx_core.specs.declared.settings.Settings.{Settings}
 use Rattle.vrx_core.specs.declared.event.Event.{Event}

@@ -7,12 +7,12 @@ use Rattle.vrx_num.specs.declared.limits.TheConstants.{KEY_REQUEST_WAIT}
 use Rattle.vrx_asks.specs.KeyAsk.{is_outstanding}
 use Rattle.vrx_codec.specs.Meaning.{Meaning}
 use Rattle.vrx_window.specs.Content.{Content}
-use Rattle.vrx_window.specs.Window.{after_placing}
 use Rattle.vrx_frames.specs.Run.{Run}
+use Rattle.vrx_repair.specs.Source.{Source}
 use Rattle.vrx_core.specs.machine.Asking.{IsOutstanding, KeyRequestsApartHold, LossesAskHold}
 use Rattle.vrx_core.specs.machine.GivenUp.{all_lost, lost_by_packet}
 use Rattle.vrx_core.specs.machine.KeyRequest.{is_answered, is_needed, open_request, still_open, with_key_request}
-use Rattle.vrx_core.specs.machine.Machine.{Snapshot, after_datagram, after_pull, after_tick, latest, next_run, after_settling, snapshots, with_requests}
+use Rattle.vrx_core.specs.machine.Machine.{Snapshot, after_datagram, after_pull, after_tick, latest, next_run, after_settling, after_packet, snapshots, source_in, with_requests}
 use Rattle.vrx_core.specs.machine.Snapshot.{moved}
 use Rattle.vrx_core.specs.machine.Verdict.{verdict}
 use Rattle.vrx_core.specs.declared.settings.Settings.{Settings}
@@ -47,12 +47,11 @@ asks-by wants past s later = record {
 }
 
 -- each event does
-datagram-asks : (codec : Meaning) (past : List Snapshot) (moment : ℕ) (v : Result (ℕ × Content) NotTaken) →
-    AsksRightly past (after_datagram codec past moment v)
-datagram-asks codec past moment (Err left) = asks-nothing past (moved (latest past) moment) (omega arith) refl
-datagram-asks codec past moment (Ok (n, content)) =
-    let s : Snapshot = after_settling codec past
-    (record (moved (latest past) moment) { window = after_placing n content (latest past).window }) in
+datagram-asks : (source : Source) (past : List Snapshot) (moment : ℕ) (v : Result (ℕ × Content) NotTaken) →
+    AsksRightly past (after_datagram source past moment v)
+datagram-asks source past moment (Err left) = asks-nothing past (moved (latest past) moment) (omega arith) refl
+datagram-asks source past moment (Ok (n, content)) =
+    let s : Snapshot = after_settling source.codec past (after_packet source n content (moved (latest past) moment)) in
     let given : Snapshot = with_requests past s in
     asks-by (list_any (λ n. not (is_answered s n)) (lost_by_packet past s)) past given (omega arith)
 
@@ -74,7 +73,7 @@ unfolding snapshots
 all-ask settings codec [] = (record { later = omega arith; none_open = λ h. absurd (cc) }, tt)
 all-ask settings codec (Datagram moment octets ∷ h) =
     let past : List Snapshot = snapshots settings codec h in
-    (datagram-asks codec past moment (verdict settings codec (latest past).window octets), all-ask settings codec h)
+    (datagram-asks (source_in settings codec) past moment (verdict settings codec (latest past).window octets), all-ask settings codec h)
 all-ask settings codec (Tick moment ∷ h) =
     (tick-asks settings (snapshots settings codec h) moment, all-ask settings codec h)
 all-ask settings codec (Pull moment ∷ h) =
@@ -219,12 +218,11 @@ abbrev LossAsks : List Snapshot → Snapshot → Type 0
 LossAsks past s = (n : ℕ) → Contains s.lost n → is_answered s n ≡ false →
     (s.key_asked ≡ true) ⊎ ((s.key_completed ≡ false) × IsOutstanding s.now past)
 
-datagram-loss : (codec : Meaning) (past : List Snapshot) (moment : ℕ) (v : Result (ℕ × Content) NotTaken) →
-    LossAsks past (after_datagram codec past moment v)
-datagram-loss codec past moment (Err left) n there unanswered = absurd (Contains-empty n there)
-datagram-loss codec past moment (Ok (k, content)) n there unanswered =
-    let s : Snapshot = after_settling codec past
-    (record (moved (latest past) moment) { window = after_placing k content (latest past).window }) in
+datagram-loss : (source : Source) (past : List Snapshot) (moment : ℕ) (v : Result (ℕ × Content) NotTaken) →
+    LossAsks past (after_datagram source past moment v)
+datagram-loss source past moment (Err left) n there unanswered = absurd (Contains-empty n there)
+datagram-loss source past moment (Ok (k, content)) n there unanswered =
+    let s : Snapshot = after_settling source.codec past (after_packet source k content (moved (latest past) moment)) in
     asks-or-waits (list_any (λ n. not (is_answered s n)) (lost_by_packet past s)) past (with_requests past s)
     (some-open s (lost_by_packet past s) n there unanswered)
 
@@ -247,7 +245,7 @@ pub losses-ask : LossesAskHold
 unfolding snapshots
 losses-ask settings codec h (Datagram moment octets) n there unanswered =
     let past : List Snapshot = snapshots settings codec h in
-    datagram-loss codec past moment (verdict settings codec (latest past).window octets) n there unanswered
+    datagram-loss (source_in settings codec) past moment (verdict settings codec (latest past).window octets) n there unanswered
 losses-ask settings codec h (Tick moment) n there unanswered =
     tick-loss settings (snapshots settings codec h) moment n there unanswered
 losses-ask settings codec h (Pull moment) n there unanswered =

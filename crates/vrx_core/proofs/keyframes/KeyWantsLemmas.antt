@@ -4,13 +4,13 @@ use Rattle.std.specs.List.{list_any}
 use Rattle.vrx_asks.specs.KeyAsk.{is_outstanding}
 use Rattle.vrx_codec.specs.Meaning.{Meaning}
 use Rattle.vrx_window.specs.Content.{Content}
-use Rattle.vrx_window.specs.Window.{after_placing}
 use Rattle.vrx_frames.specs.Run.{Run}
+use Rattle.vrx_repair.specs.Source.{Source}
 use Rattle.vrx_core.specs.machine.GivenUp.{all_lost, lost_by_packet}
 use Rattle.vrx_core.specs.machine.KeyRequest.{completes_key, is_answered, open_request}
-use Rattle.vrx_core.specs.machine.Machine.{Snapshot, after_datagram, after_pull, after_tick, latest, opening, after_settling, with_requests}
+use Rattle.vrx_core.specs.machine.Machine.{Snapshot, after_datagram, after_pull, after_tick, latest, opening, after_settling, after_packet, with_requests}
 use Rattle.vrx_core.specs.machine.Snapshot.{moved}
-use Rattle.vrx_core.specs.relation.Order.{greatest_of}
+use Rattle.vrx_buffer.specs.Order.{greatest_of}
 use Rattle.vrx_core.specs.relation.StandsFor.{Wanted, WantsIn, last_key}
 use Rattle.vrx_core.specs.inside.Wants.{asks_key, is_lost_open, key_after, lost_ticked, needs_key, nothing_wanted, open_after}
 use Rattle.vrx_core.specs.declared.settings.Settings.{Settings}
@@ -163,41 +163,40 @@ module _ (past : List Snapshot) (s : Snapshot) (wanted : Wanted) (falls : Falls 
       (ap (open_after completed) asked)
 
 -- what a datagram leaves that is taken, before its requests
-abbrev placed_after : Meaning → List Snapshot → (moment n : ℕ) → Content → Snapshot
-placed_after codec past moment n content =
-    after_settling codec past
-    (record (moved (latest past) moment) { window = after_placing n content (latest past).window })
+abbrev placed_after : Source → List Snapshot → (moment n : ℕ) → Content → Snapshot
+placed_after source past moment n content =
+    after_settling source.codec past (after_packet source n content (moved (latest past) moment))
 
 -- A datagram that is taken.
-module _ (codec : Meaning) (past : List Snapshot) (moment n : ℕ) (content : Content) (wanted : Wanted) where
+module _ (source : Source) (past : List Snapshot) (moment n : ℕ) (content : Content) (wanted : Wanted) where
   -- the frames pulled are left
   pub taken-key_pulled : wanted.key_pulled ≡ last_key (latest past).pulled →
-      wanted.key_pulled ≡ last_key (latest (after_datagram codec past moment (Ok (n, content)) ∷ past)).pulled
+      wanted.key_pulled ≡ last_key (latest (after_datagram source past moment (Ok (n, content)) ∷ past)).pulled
   taken-key_pulled is = is
 
   -- a keyframe completed with it, or before
   pub taken-keyed : wanted.keyed ≡ list_any (λ (s : Snapshot). s.key_completed) past
       → (wanted.keyed || completes_key (latest past).standing
-      (after_datagram codec past moment (Ok (n, content))).standing) ≡ list_any (λ (s : Snapshot). s.key_completed)
-      (after_datagram codec past moment (Ok (n, content)) ∷ past)
+      (after_datagram source past moment (Ok (n, content))).standing) ≡ list_any (λ (s : Snapshot). s.key_completed)
+      (after_datagram source past moment (Ok (n, content)) ∷ past)
   taken-keyed is =
       or-swap wanted.keyed (completes_key (latest past).standing
-      (after_datagram codec past moment (Ok (n, content))).standing)
-      ∙ ap (λ b. completes_key (latest past).standing (after_datagram codec past moment (Ok (n, content))).standing
+      (after_datagram source past moment (Ok (n, content))).standing)
+      ∙ ap (λ b. completes_key (latest past).standing (after_datagram source past moment (Ok (n, content))).standing
       || b) is
 
   module _ (falls : Falls (latest past).pulled) (pulled : wanted.key_pulled ≡ last_key (latest past).pulled)
       (asked : wanted.key_asked ≡ open_request past) (lost : Option ℕ)
-      (lost_is : lost ≡ greatest_of (after_datagram codec past moment (Ok (n, content))).lost) where
+      (lost_is : lost ≡ greatest_of (after_datagram source past moment (Ok (n, content))).lost) where
     -- it asks for a keyframe
-    pub taken-asks : let s : Snapshot = after_datagram codec past moment (Ok (n, content)) in
+    pub taken-asks : let s : Snapshot = after_datagram source past moment (Ok (n, content)) in
         asks_key s.now (is_lost_open (key_standing s) wanted.key_pulled lost)
         (open_after (completes_key (latest past).standing s.standing) wanted.key_asked) ≡ s.key_asked
-    taken-asks = requests-ask past (placed_after codec past moment n content) wanted falls pulled asked lost lost_is
+    taken-asks = requests-ask past (placed_after source past moment n content) wanted falls pulled asked lost lost_is
 
     -- and this request is open then
-    pub taken-key_asked : let s : Snapshot = after_datagram codec past moment (Ok (n, content)) in
+    pub taken-key_asked : let s : Snapshot = after_datagram source past moment (Ok (n, content)) in
         key_after s.now (is_lost_open (key_standing s) wanted.key_pulled lost)
         (open_after (completes_key (latest past).standing s.standing) wanted.key_asked) ≡ open_request (s ∷ past)
     taken-key_asked =
-        requests-open past (placed_after codec past moment n content) wanted falls pulled asked lost lost_is
+        requests-open past (placed_after source past moment n content) wanted falls pulled asked lost lost_is

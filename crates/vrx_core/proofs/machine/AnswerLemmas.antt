@@ -6,6 +6,8 @@ use Rattle.std.proofs.lemmas.Option.{none-some, same_Some}
 use Rattle.vrx_frames.specs.Run.{Run, stands}
 use Rattle.vrx_core.specs.machine.Answers.{NoneDeliverable, IsLeastDeliverable, AnswersHold}
 use Rattle.vrx_core.specs.machine.Deliverable.{is_deliverable, lesser, least, answer}
+use Rattle.vrx_core.specs.machine.Snapshot.{last_pulled}
+use Rattle.vrx_core.specs.machine.Told.{Told}
 use Rattle.vrx_core.proofs.machine.MemberLemmas.{Contains-head, Contains-tail, Contains-either, Contains-empty, filter-from, filter-to}
 
 -- the least of some runs is one of them
@@ -58,57 +60,57 @@ least-upto (r ∷ rs) run other is c =
       either each (inr later) = among each (least rs) refl later
 
 -- the answer is one of the runs, and is deliverable
-pub answer-given : (pulled front : Option ℕ) (rs : List Run) (run : Run) → answer pulled front rs ≡ Some run →
-    Contains rs run × (is_deliverable pulled front run ≡ true)
-answer-given pulled front rs run is =
-    filter-from (is_deliverable pulled front) rs run (least-from (filter (is_deliverable pulled front) rs) run is)
+pub answer-given : (told : Told) (pulled : List Run) (front : Option ℕ) (rs : List Run) (run : Run) → answer told pulled front rs ≡ Some run →
+    Contains rs run × (is_deliverable told pulled front run ≡ true)
+answer-given told pulled front rs run is =
+    filter-from (is_deliverable told pulled front) rs run (least-from (filter (is_deliverable told pulled front) rs) run is)
 
 -- the answer is one of the runs, and stands
-pub answer-from : (pulled front : Option ℕ) (rs : List Run) (run : Run) → answer pulled front rs ≡ Some run →
-    Contains rs run × (stands pulled run ≡ true)
-answer-from pulled front rs run is =
-    let there : Contains rs run × (is_deliverable pulled front run ≡ true) = answer-given pulled front rs run is in
-    (there.0, (and_parts (stands pulled run) _ there.1).0)
+pub answer-from : (told : Told) (pulled : List Run) (front : Option ℕ) (rs : List Run) (run : Run) → answer told pulled front rs ≡ Some run →
+    Contains rs run × (stands (last_pulled pulled) run ≡ true)
+answer-from told pulled front rs run is =
+    let there : Contains rs run × (is_deliverable told pulled front run ≡ true) = answer-given told pulled front rs run is in
+    (there.0, (and_parts (stands (last_pulled pulled) run) _ there.1).0)
 
 -- the answer begins no later than each deliverable run
-pub answer-least : (pulled front : Option ℕ) (rs : List Run) (run other : Run) → answer pulled front rs ≡ Some run →
-    Contains rs other → is_deliverable pulled front other ≡ true → run.first ≤ other.first
-answer-least pulled front rs run other is there deliverable =
-    least-upto (filter (is_deliverable pulled front) rs) run other is
-    (filter-to (is_deliverable pulled front) rs other there deliverable)
+pub answer-least : (told : Told) (pulled : List Run) (front : Option ℕ) (rs : List Run) (run other : Run) → answer told pulled front rs ≡ Some run →
+    Contains rs other → is_deliverable told pulled front other ≡ true → run.first ≤ other.first
+answer-least told pulled front rs run other is there deliverable =
+    least-upto (filter (is_deliverable told pulled front) rs) run other is
+    (filter-to (is_deliverable told pulled front) rs other there deliverable)
 
 -- if there is no answer, no run is deliverable
-pub answer-none : (pulled front : Option ℕ) (rs : List Run) → answer pulled front rs ≡ None →
-    NoneDeliverable pulled front rs
-answer-none pulled front rs none other there =
-    false_from_ne_true (is_deliverable pulled front other)
-    (λ deliverable. none_left (filter (is_deliverable pulled front) rs) none other
-    (filter-to (is_deliverable pulled front) rs other there deliverable))
+pub answer-none : (told : Told) (pulled : List Run) (front : Option ℕ) (rs : List Run) → answer told pulled front rs ≡ None →
+    NoneDeliverable told pulled front rs
+answer-none told pulled front rs none other there =
+    false_from_ne_true (is_deliverable told pulled front other)
+    (λ deliverable. none_left (filter (is_deliverable told pulled front) rs) none other
+    (filter-to (is_deliverable told pulled front) rs other there deliverable))
 
 -- and back
-none-answer : (pulled front : Option ℕ) (rs : List Run) → NoneDeliverable pulled front rs →
-    answer pulled front rs ≡ None
-none-answer pulled front rs none = by_answer (answer pulled front rs) refl where
-  by_answer : (o : Option Run) → answer pulled front rs ≡ o → o ≡ None
+none-answer : (told : Told) (pulled : List Run) (front : Option ℕ) (rs : List Run) → NoneDeliverable told pulled front rs →
+    answer told pulled front rs ≡ None
+none-answer told pulled front rs none = by_answer (answer told pulled front rs) refl where
+  by_answer : (o : Option Run) → answer told pulled front rs ≡ o → o ≡ None
   by_answer None is = refl
   by_answer (Some run) is = let given =
-      answer-given pulled front rs run is in absurd (true≢false (sym given.1 ∙ none run given.0))
+      answer-given told pulled front rs run is in absurd (true≢false (sym given.1 ∙ none run given.0))
 
 -- every answer is right
 pub answers_are : AnswersHold
-answers_are pulled front rs =
+answers_are told pulled front rs =
     record {
-      none = (answer-none pulled front rs, none-answer pulled front rs);
-      some = by_answer (answer pulled front rs) refl;
+      none = (answer-none told pulled front rs, none-answer told pulled front rs);
+      some = by_answer (answer told pulled front rs) refl;
     } where
-      by_answer : (o : Option Run) → answer pulled front rs ≡ o →
-          IfSome o (λ run. IsLeastDeliverable pulled front rs run)
+      by_answer : (o : Option Run) → answer told pulled front rs ≡ o →
+          IfSome o (λ run. IsLeastDeliverable told pulled front rs run)
       by_answer None is = tt
       by_answer (Some run) is =
-          let given : Contains rs run × (is_deliverable pulled front run ≡ true) =
-          answer-given pulled front rs run is in
+          let given : Contains rs run × (is_deliverable told pulled front run ≡ true) =
+          answer-given told pulled front rs run is in
           record {
             among = given.0;
             deliverable = given.1;
-            least = λ other there deliverable. answer-least pulled front rs run other is there deliverable;
+            least = λ other there deliverable. answer-least told pulled front rs run other is there deliverable;
           }

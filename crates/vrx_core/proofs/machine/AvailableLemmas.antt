@@ -1,5 +1,5 @@
 -- Which packets are available.
-use Rattle.std.proofs.Common.{◌≡◌, ℕ, ◌+◌, ◌<◌, ◌≤◌, ◌⊎◌, max, Bool, true, false, cond, List, [], ◌∷◌, ◌++◌, Option, Some, None, is_some, IsSomeAnd, Result, Ok, Err, refl, sym, ◌∙◌, ap, subst, arith, inl, inr, Equal, nat_cmp, nat_lt, nat_le}
+use Rattle.std.proofs.Common.{◌≡◌, ℕ, ◌+◌, ◌<◌, ◌≤◌, ◌⊎◌, max, Bool, true, false, cond, List, [], ◌∷◌, ◌++◌, Contains, Option, Some, None, is_some, IsSomeAnd, Result, Ok, Err, refl, sym, ◌∙◌, ap, subst, arith, inl, inr, Equal, nat_cmp, nat_lt, nat_le}
 use Rattle.std.specs.Ordering.{eq_by_cmp}
 use Rattle.std.specs.FinMap.Entries.{find-put, find-where_key, where_key}
 use Rattle.std.proofs.lemmas.Cmp.{nat_cmp_total}
@@ -9,15 +9,18 @@ use Rattle.std.proofs.lemmas.Option.{none-some, same_Some}
 use Rattle.vrx_num.specs.declared.limits.TheConstants.{WINDOW}
 use Rattle.vrx_codec.specs.Meaning.{Meaning}
 use Rattle.vrx_window.specs.Content.{Content}
-use Rattle.vrx_window.specs.Window.{Contents, at, in_window, is_too_old, newest_with, after_placing, entries_with}
+use Rattle.vrx_window.specs.Window.{Contents, at, in_window, is_inside, is_too_old, newest_with, after_placing, entries_with}
 use Rattle.vrx_frames.specs.Run.{Packets, Run}
+use Rattle.vrx_repair.specs.Plan.{repairs_in}
+use Rattle.vrx_repair.specs.Source.{Source}
 use Rattle.vrx_core.specs.machine.Verdict.{verdict}
-use Rattle.vrx_core.specs.machine.Machine.{Snapshot, latest, next_run, after_datagram, after_pull, snapshots}
-use Rattle.vrx_core.specs.machine.Available.{WasTaken, IsInWindow, AvailableHolds}
+use Rattle.vrx_core.specs.machine.Machine.{Snapshot, latest, next_run, after_datagram, after_pull, snapshots, source_in, with_repaired}
+use Rattle.vrx_core.specs.machine.Available.{WasTaken, WasRepaired, IsInWindow, AvailableHolds}
 use Rattle.vrx_core.specs.declared.settings.Settings.{Settings}
 use Rattle.vrx_core.specs.declared.event.Event.{Event}
 use Rattle.vrx_core.specs.declared.event.Event.TheVariants.{Datagram, Tick, Pull}
 use Rattle.vrx_core.specs.declared.original.NotTaken.{NotTaken}
+use Rattle.vrx_core.proofs.machine.RepairedLemmas.{made-each, made-from, made-here, made-stays}
 use Rattle.vrx_core.proofs.machine.VerdictLemmas.{IsFresh, verdict-taken, fresh-is}
 
 -- keys that tie are equal
@@ -74,12 +77,12 @@ placed_old newest m n c content packets apart inside there =
       by_test false other = ap (λ b. cond b (at n packets) None) inside ∙ there
 
 -- the newest number isn't below the one placed
-newest-from : (newest : Option ℕ) (n : ℕ) → n ≤ newest_with newest n
+pub newest-from : (newest : Option ℕ) (n : ℕ) → n ≤ newest_with newest n
 newest-from None n = omega arith
 newest-from (Some m) n = omega arith
 
 -- a number that isn't too old lies in the window once it is placed
-newest-upto : (newest : Option ℕ) (n : ℕ) → is_too_old newest n ≡ false → newest_with newest n < n + WINDOW
+pub newest-upto : (newest : Option ℕ) (n : ℕ) → is_too_old newest n ≡ false → newest_with newest n < n + WINDOW
 newest-upto None n young = omega arith
 newest-upto (Some m) n young = let less : m < n + WINDOW = leb-false (n + WINDOW) m young in omega arith
 
@@ -103,37 +106,48 @@ some_and : (P : ℕ → Type 0) (o : Option ℕ) → IsSomeAnd o P → (k : ℕ)
 some_and P None h = absurd h
 some_and P (Some k) h = (k, refl, h)
 
--- a list without its first member
-abbrev rest_of : List Event → List Event
-rest_of [] = []
-rest_of (e ∷ h) = h
+-- a number inside, as the sentence says it
+pub inside-window : (newest : Option ℕ) (n : ℕ) → is_inside newest n ≡ true → IsInWindow newest n
+inside-window None n inside = absurd (true≢false (sym inside))
+inside-window (Some k) n inside = window-order k n inside
 
 module _ (settings : Settings) (codec : Meaning) (n : ℕ) (content : Content) where
-  -- what was taken in a history was taken in the history with one event more
-  taken_before : (h : List Event) (e : Event) → WasTaken settings codec h n content →
-      WasTaken settings codec (e ∷ h) n content
-  taken_before h e w = record {
+  -- what was taken or repaired in a history
+  abbrev Came : List Event → Type 0
+  Came h = WasTaken settings codec h n content ⊎ WasRepaired settings codec h n content
+
+  -- what was taken in a history was taken in the history with one event more, and what was repaired was repaired
+  came_before : (h : List Event) (e : Event) → Came h → Came (e ∷ h)
+  came_before h e (inl w) = inl (record {
     before = w.before;
     moment = w.moment;
     octets = w.octets;
     after = e ∷ w.after;
     history = ap (λ (t : List Event). e ∷ t) w.history;
     taken = w.taken;
-  }
+  })
+  came_before h e (inr w) = inr (record {
+    before = w.before;
+    moment = w.moment;
+    octets = w.octets;
+    after = e ∷ w.after;
+    history = ap (λ (t : List Event). e ∷ t) w.history;
+    number = w.number;
+    brought = w.brought;
+    taken = w.taken;
+    repaired = w.repaired;
+  })
 
-  -- what is available was taken, and lies in the window
+  -- what is available was taken or repaired, and lies in the window
   abbrev Comes : List Event → Contents Content → Type 0
-  Comes h window =
-      at n window.packets ≡ Some content → WasTaken settings codec h n content × IsInWindow window.newest n
+  Comes h window = at n window.packets ≡ Some content → Came h × IsInWindow window.newest n
 
-  -- so it is after a datagram
-  available_after : (h : List Event) (moment : ℕ) (octets : List ℕ) (v : Result (ℕ × Content) NotTaken) →
-      verdict settings codec (latest (snapshots settings codec h)).window octets ≡ v →
-      Comes h (latest (snapshots settings codec h)).window
-      → Comes (Datagram moment octets ∷ h) (after_datagram codec (snapshots settings codec h) moment v).window
-  available_after h moment octets (Err left) is old there =
-      (taken_before h (Datagram moment octets) (old there).0, (old there).1)
-  available_after h moment octets (Ok (m, c)) is old there =
+  -- so it is in the window in which a packet is placed
+  available_placed : (h : List Event) (moment : ℕ) (octets : List ℕ) (m : ℕ) (c : Content) →
+      verdict settings codec (latest (snapshots settings codec h)).window octets ≡ Ok (m, c) →
+      Comes h (latest (snapshots settings codec h)).window →
+      Comes (Datagram moment octets ∷ h) (after_placing m c (latest (snapshots settings codec h)).window)
+  available_placed h moment octets m c is old there =
       let window : Contents Content = (latest (snapshots settings codec h)).window in
       elim (placed_at (newest_with window.newest m) m n c content window.packets there) [
         | inl new ↦
@@ -142,23 +156,52 @@ module _ (settings : Settings) (codec : Meaning) (n : ℕ) (content : Content) w
             let most : newest_with window.newest m < m + WINDOW =
             newest-upto window.newest m
             (fresh-is window m (verdict-taken settings codec window octets m c is).fresh).young in (
-              record {
+              inl (record {
                 before = h;
                 moment = moment;
                 octets = octets;
                 after = [];
                 history = refl;
                 taken = is ∙ ap (λ (k : ℕ). Ok (k, c)) same ∙ ap ok_with new.1;
-              },
+              }),
               (omega arith, omega arith),
             )
         | inr more ↦ (
-          taken_before h (Datagram moment octets) (old more.1).0,
+          came_before h (Datagram moment octets) (old more.1).0,
           window-order (newest_with window.newest m) n more.0,
         )
       ] where
         ok_with : Content → Result (ℕ × Content) NotTaken
         ok_with x = Ok (n, x)
+
+  -- so it is after a datagram
+  available_after : (h : List Event) (moment : ℕ) (octets : List ℕ) (v : Result (ℕ × Content) NotTaken) →
+      verdict settings codec (latest (snapshots settings codec h)).window octets ≡ v →
+      Comes h (latest (snapshots settings codec h)).window →
+      Comes (Datagram moment octets ∷ h)
+      (after_datagram (source_in settings codec) (snapshots settings codec h) moment v).window
+  available_after h moment octets (Err left) is old there =
+      (came_before h (Datagram moment octets) (old there).0, (old there).1)
+  available_after h moment octets (Ok (m, c)) is old there =
+      let source : Source = source_in settings codec in
+      let placed : Contents Content = after_placing m c (latest (snapshots settings codec h)).window in
+      elim (made-from source placed n content there) [
+        | inl placing ↦ available_placed h moment octets m c is old placing
+        | inr among ↦ (
+          inr (record {
+            before = h;
+            moment = moment;
+            octets = octets;
+            after = [];
+            history = refl;
+            number = m;
+            brought = c;
+            taken = is;
+            repaired = among;
+          }),
+          inside-window placed.newest n (made-each source placed (n, content) among).inside,
+        )
+      ]
 
   -- so it is after each history
   comes : (h : List Event) → Comes h (latest (snapshots settings codec h)).window
@@ -167,13 +210,13 @@ module _ (settings : Settings) (codec : Meaning) (n : ℕ) (content : Content) w
   comes (Datagram moment octets ∷ h) there =
       available_after h moment octets
       (verdict settings codec (latest (snapshots settings codec h)).window octets) refl (comes h) there
-  comes (Tick moment ∷ h) there = let before = comes h there in (taken_before h (Tick moment) before.0, before.1)
+  comes (Tick moment ∷ h) there = let before = comes h there in (came_before h (Tick moment) before.0, before.1)
   comes (Pull moment ∷ h) there =
       let past : List Snapshot = snapshots settings codec h in
       let same : (after_pull codec past moment (next_run (latest past))).window ≡ (latest past).window =
       pull_window codec past moment (next_run (latest past)) in
       let before = comes h (ap (λ (w : Contents Content). at n w.packets) (sym same) ∙ there) in (
-        taken_before h (Pull moment) before.0,
+        came_before h (Pull moment) before.0,
         subst (λ (w : Contents Content). IsInWindow w.newest n) (sym same) before.1,
       )
 
@@ -220,14 +263,34 @@ module _ (settings : Settings) (codec : Meaning) (n : ℕ) (content : Content) w
         (order-window (newest_with window.newest m) n within.0 within.1)
         (still.there (inside (omega (arith, within.0, newest_is))))
 
+  -- and when the repairs are made
+  still-made : (source : Source) (window : Contents Content) → IsStill window →
+      IsStill (with_repaired (repairs_in source window) window)
+  still-made source window still = record {
+    upto = still.upto;
+    there = λ within. made-stays source window n content (still.there within);
+  }
+
+  -- so it is once it is repaired
+  still-repaired : (source : Source) (window : Contents Content) → Contains (repairs_in source window) (n, content) →
+      IsStill (with_repaired (repairs_in source window) window)
+  still-repaired source window among = record {
+    upto = below window.newest (inside-window window.newest n (made-each source window (n, content) among).inside);
+    there = λ within. made-here source window n content among;
+  } where
+    below : (o : Option ℕ) → IsInWindow o n → IsSomeAnd o (λ k. n ≤ k)
+    below None within = absurd within
+    below (Some k) within = within.1
+
   -- so it is after an event more
   still_datagram : (past : List Snapshot) (moment : ℕ) (octets : List ℕ) (v : Result (ℕ × Content) NotTaken) →
       verdict settings codec (latest past).window octets ≡ v → IsStill (latest past).window →
-      IsStill (after_datagram codec past moment v).window
+      IsStill (after_datagram (source_in settings codec) past moment v).window
   still_datagram past moment octets (Err left) is still = still
   still_datagram past moment octets (Ok (m, c)) is still =
-      still-after_placing (latest past).window m c
-      (fresh-is (latest past).window m (verdict-taken settings codec (latest past).window octets m c is).fresh) still
+      still-made (source_in settings codec) (after_placing m c (latest past).window)
+      (still-after_placing (latest past).window m c
+      (fresh-is (latest past).window m (verdict-taken settings codec (latest past).window octets m c is).fresh) still)
 
   still_next : (h : List Event) (e : Event) → IsStill (latest (snapshots settings codec h)).window →
       IsStill (latest (snapshots settings codec (e ∷ h))).window
@@ -247,34 +310,39 @@ module _ (settings : Settings) (codec : Meaning) (n : ℕ) (content : Content) w
   unfolding snapshots
   still_taken h moment octets taken =
       let past : List Snapshot = snapshots settings codec h in
-      subst (λ v. IsStill (after_datagram codec past moment v).window) (sym taken) (still-new (latest past).window)
+      subst (λ v. IsStill (after_datagram (source_in settings codec) past moment v).window) (sym taken)
+      (still-made (source_in settings codec) (after_placing n content (latest past).window)
+      (still-new (latest past).window))
 
-  -- so it is after each history in which it was taken
-  still : (h : List Event) → WasTaken settings codec h n content →
-      IsStill (latest (snapshots settings codec h)).window
-  still [] w = none w.after w.history where
-    none : (after : List Event) → [] ≡ after ++ Datagram w.moment w.octets ∷ w.before →
-        IsStill (latest (snapshots settings codec [])).window
-    none [] is = absurd (cc)
-    none (e ∷ after) is = absurd (cc)
-  still (e ∷ h) w = by_after w.after w.history (still h) where
-    by_after : (after : List Event) → e ∷ h ≡ after ++ Datagram w.moment w.octets ∷ w.before →
-        (WasTaken settings codec h n content → IsStill (latest (snapshots settings codec h)).window) →
-        IsStill (latest (snapshots settings codec (e ∷ h))).window
-    by_after [] is earlier =
-        subst (λ t. IsStill (latest (snapshots settings codec t)).window) (sym is)
-        (still_taken w.before w.moment w.octets w.taken)
-    by_after (a ∷ after) is earlier =
-        still_next h e (earlier (record {
-          before = w.before;
-          moment = w.moment;
-          octets = w.octets;
-          after = after;
-          history = ap rest_of is;
-          taken = w.taken;
-        }))
+  -- and after the one that it was repaired by
+  still_repaired : (h : List Event) (moment : ℕ) (octets : List ℕ) (m : ℕ) (c : Content) →
+      verdict settings codec (latest (snapshots settings codec h)).window octets ≡ Ok (m, c) →
+      Contains (repairs_in (source_in settings codec) (after_placing m c (latest (snapshots settings codec h)).window))
+      (n, content) → IsStill (latest (snapshots settings codec (Datagram moment octets ∷ h))).window
+  unfolding snapshots
+  still_repaired h moment octets m c taken among =
+      let past : List Snapshot = snapshots settings codec h in
+      subst (λ v. IsStill (after_datagram (source_in settings codec) past moment v).window) (sym taken)
+      (still-repaired (source_in settings codec) (after_placing m c (latest past).window) among)
 
--- a number is available exactly if it was taken and lies in the window
+  -- so it is after each history that goes on after one in which it is so
+  still_later : (after : List Event) (before h : List Event) → h ≡ after ++ before →
+      IsStill (latest (snapshots settings codec before)).window → IsStill (latest (snapshots settings codec h)).window
+  still_later [] before h is still = subst (λ t. IsStill (latest (snapshots settings codec t)).window) (sym is) still
+  still_later (e ∷ after) before h is still =
+      subst (λ t. IsStill (latest (snapshots settings codec t)).window) (sym is)
+      (still_next (after ++ before) e (still_later after before (after ++ before) refl still))
+
+  -- so it is after each history in which it was taken or repaired
+  still : (h : List Event) → Came h → IsStill (latest (snapshots settings codec h)).window
+  still h (inl w) =
+      still_later w.after (Datagram w.moment w.octets ∷ w.before) h w.history
+      (still_taken w.before w.moment w.octets w.taken)
+  still h (inr w) =
+      still_later w.after (Datagram w.moment w.octets ∷ w.before) h w.history
+      (still_repaired w.before w.moment w.octets w.number w.brought w.taken w.repaired)
+
+-- a number is available exactly if it was taken or repaired and lies in the window
 pub available_are : AvailableHolds
 available_are settings codec h n content =
     (comes settings codec n content h, λ was. (still settings codec n content h was.0).there was.1)

@@ -3,9 +3,10 @@ use Rattle.std.proofs.Common.{◌≡◌, ℕ, max, List, [], ◌∷◌, Option, 
 use Rattle.vrx_codec.specs.Meaning.{Meaning}
 use Rattle.vrx_window.specs.Content.{Content}
 use Rattle.vrx_frames.specs.Run.{Run}
+use Rattle.vrx_repair.specs.Source.{Source}
 use Rattle.vrx_core.specs.machine.Clock.{ClockHolds}
 use Rattle.vrx_core.specs.machine.Verdict.{verdict}
-use Rattle.vrx_core.specs.machine.Machine.{Snapshot, latest, after_datagram, after_pull, next, next_run, reply_between, with_next, snapshots, reply}
+use Rattle.vrx_core.specs.machine.Machine.{Snapshot, latest, after_datagram, after_pull, next, next_run, reply_between, with_next, snapshots, source_in, reply}
 use Rattle.vrx_core.specs.declared.settings.Settings.{Settings}
 use Rattle.vrx_core.specs.declared.original.NotTaken.{NotTaken}
 use Rattle.vrx_core.specs.declared.event.Event.{Event}
@@ -24,10 +25,10 @@ unfolding reply
 reply-is settings codec h e = refl
 
 -- a datagram moves the clock
-datagram_now : (codec : Meaning) (past : List Snapshot) (moment : ℕ) (v : Result (ℕ × Content) NotTaken) →
-    (after_datagram codec past moment v).now ≡ max (latest past).now moment
-datagram_now codec past moment (Ok (n, content)) = refl
-datagram_now codec past moment (Err left) = refl
+datagram_now : (source : Source) (past : List Snapshot) (moment : ℕ) (v : Result (ℕ × Content) NotTaken) →
+    (after_datagram source past moment v).now ≡ max (latest past).now moment
+datagram_now source past moment (Ok (n, content)) = refl
+datagram_now source past moment (Err left) = refl
 
 -- and so does a pull
 pull_now : (codec : Meaning) (past : List Snapshot) (moment : ℕ) (o : Option Run) →
@@ -41,7 +42,7 @@ unfolding snapshots
 clock-is settings codec [] = refl
 clock-is settings codec (Datagram moment octets ∷ h) =
     let past : List Snapshot = snapshots settings codec h in
-    datagram_now codec past moment (verdict settings codec (latest past).window octets)
+    datagram_now (source_in settings codec) past moment (verdict settings codec (latest past).window octets)
     ∙ ap (λ c. max c moment) (clock-is settings codec h)
 clock-is settings codec (Tick moment ∷ h) = ap (λ c. max c moment) (clock-is settings codec h)
 clock-is settings codec (Pull moment ∷ h) =

@@ -6,11 +6,12 @@ use Rattle.std.proofs.lemmas.Option.{none-some}
 use Rattle.vrx_num.specs.declared.limits.TheConstants.{WINDOW}
 use Rattle.vrx_codec.specs.Meaning.{Meaning}
 use Rattle.vrx_window.specs.Content.{Content}
-use Rattle.vrx_window.specs.Window.{Contents, at, after_placing}
+use Rattle.vrx_window.specs.Window.{Contents, at}
 use Rattle.vrx_frames.specs.Front.{is_no_media, reach_from, front_after}
 use Rattle.vrx_frames.specs.Run.{Packets, Run, is_passed}
+use Rattle.vrx_repair.specs.Source.{Source}
 use Rattle.vrx_core.specs.machine.Verdict.{verdict}
-use Rattle.vrx_core.specs.machine.Machine.{Snapshot, latest, last_pulled, next_run, after_datagram, after_pull, snapshots}
+use Rattle.vrx_core.specs.machine.Machine.{Snapshot, latest, last_pulled, next_run, after_datagram, after_pull, snapshots, source_in}
 use Rattle.vrx_core.specs.machine.Available.{IsInWindow}
 use Rattle.vrx_core.specs.machine.Passed.{IsOverNoMedia, IsReached, PassedStaysHolds, NonePassedHolds, PassedExactlyHolds}
 use Rattle.vrx_core.specs.declared.settings.Settings.{Settings}
@@ -153,12 +154,12 @@ closed_any window inside before (Some last) = closed_after window inside before 
 abbrev HasClosed : Snapshot → Type 0
 HasClosed s = IfSome (last_pulled s.pulled) (λ last. IsClosed s.window.packets s.front last)
 
-datagram_closed : (codec : Meaning) (past : List Snapshot) (moment : ℕ) (v : Result (ℕ × Content) NotTaken) →
-    IsInside (after_datagram codec past moment v).window → HasClosed (latest past) →
-    HasClosed (after_datagram codec past moment v)
-datagram_closed codec past moment (Err left) inside closed = closed
-datagram_closed codec past moment (Ok (n, content)) inside closed = let s : Snapshot =
-    latest past in closed_any (after_placing n content s.window) inside s.front (last_pulled s.pulled)
+datagram_closed : (source : Source) (past : List Snapshot) (moment : ℕ) (v : Result (ℕ × Content) NotTaken) →
+    IsInside (after_datagram source past moment v).window → HasClosed (latest past) →
+    HasClosed (after_datagram source past moment v)
+datagram_closed source past moment (Err left) inside closed = closed
+datagram_closed source past moment (Ok (n, content)) inside closed = let s : Snapshot =
+    latest past in closed_any (after_datagram source past moment (Ok (n, content))).window inside s.front (last_pulled s.pulled)
 
 pull_closed : (codec : Meaning) (past : List Snapshot) (moment : ℕ) (o : Option Run) →
     IsInside (after_pull codec past moment o).window → HasClosed (latest past) →
@@ -174,7 +175,7 @@ unfolding snapshots
 has_closed settings codec [] = tt
 has_closed settings codec (Datagram moment octets ∷ h) =
     let past : List Snapshot = snapshots settings codec h in
-    datagram_closed codec past moment (verdict settings codec (latest past).window octets)
+    datagram_closed (source_in settings codec) past moment (verdict settings codec (latest past).window octets)
     (available-inside settings codec (Datagram moment octets ∷ h)) (has_closed settings codec h)
 has_closed settings codec (Tick moment ∷ h) = has_closed settings codec h
 has_closed settings codec (Pull moment ∷ h) =
@@ -235,13 +236,13 @@ IsExact before after n =
     IfSome (last_pulled after.pulled)
     (λ last. (is_passed after.front n ≡ true) ↔ IsReached before.front last after.window.packets n)
 
-datagram_exactly : (codec : Meaning) (past : List Snapshot) (moment : ℕ) (v : Result (ℕ × Content) NotTaken) (n : ℕ) →
-    IsInside (after_datagram codec past moment v).window → HasClosed (latest past) →
-    IsExact (latest past) (after_datagram codec past moment v) n
-datagram_exactly codec past moment (Err left) n inside closed = let s : Snapshot =
+datagram_exactly : (source : Source) (past : List Snapshot) (moment : ℕ) (v : Result (ℕ × Content) NotTaken) (n : ℕ) →
+    IsInside (after_datagram source past moment v).window → HasClosed (latest past) →
+    IsExact (latest past) (after_datagram source past moment v) n
+datagram_exactly source past moment (Err left) n inside closed = let s : Snapshot =
     latest past in exactly_same s.window.packets s.front (last_pulled s.pulled) n closed
-datagram_exactly codec past moment (Ok (m, content)) n inside closed = let s : Snapshot =
-    latest past in exactly_any (after_placing m content s.window) inside s.front (last_pulled s.pulled) n
+datagram_exactly source past moment (Ok (m, content)) n inside closed = let s : Snapshot =
+    latest past in exactly_any (after_datagram source past moment (Ok (m, content))).window inside s.front (last_pulled s.pulled) n
 
 pull_exactly : (codec : Meaning) (past : List Snapshot) (moment : ℕ) (o : Option Run) (n : ℕ) →
     IsInside (after_pull codec past moment o).window → HasClosed (latest past) →
@@ -256,7 +257,7 @@ pub passed_exactly : PassedExactlyHolds
 unfolding snapshots
 passed_exactly settings codec h (Datagram moment octets) n =
     let past : List Snapshot = snapshots settings codec h in
-    datagram_exactly codec past moment (verdict settings codec (latest past).window octets) n
+    datagram_exactly (source_in settings codec) past moment (verdict settings codec (latest past).window octets) n
     (available-inside settings codec (Datagram moment octets ∷ h)) (has_closed settings codec h)
 passed_exactly settings codec h (Tick moment) n =
     let s : Snapshot = latest (snapshots settings codec h) in
@@ -282,11 +283,11 @@ abbrev HasNone : Snapshot → Type 0
 HasNone s = last_pulled s.pulled ≡ None → s.front ≡ None
 
 -- so it stays with a datagram
-datagram_none : (codec : Meaning) (past : List Snapshot) (moment : ℕ) (v : Result (ℕ × Content) NotTaken) →
-    HasNone (latest past) → HasNone (after_datagram codec past moment v)
-datagram_none codec past moment (Err left) none is = none is
-datagram_none codec past moment (Ok (n, content)) none is = let s : Snapshot =
-    latest past in ap (λ (o : Option ℕ). front_after s.front o (after_placing n content s.window).packets) is
+datagram_none : (source : Source) (past : List Snapshot) (moment : ℕ) (v : Result (ℕ × Content) NotTaken) →
+    HasNone (latest past) → HasNone (after_datagram source past moment v)
+datagram_none source past moment (Err left) none is = none is
+datagram_none source past moment (Ok (n, content)) none is = let s : Snapshot =
+    latest past in ap (λ (o : Option ℕ). front_after s.front o (after_datagram source past moment (Ok (n, content))).window.packets) is
 
 -- and with a pull
 pull_none : (codec : Meaning) (past : List Snapshot) (moment : ℕ) (o : Option Run) → HasNone (latest past) →
@@ -301,7 +302,7 @@ unfolding snapshots
 has_none settings codec [] is = refl
 has_none settings codec (Datagram moment octets ∷ h) is =
     let past : List Snapshot = snapshots settings codec h in
-    datagram_none codec past moment (verdict settings codec (latest past).window octets)
+    datagram_none (source_in settings codec) past moment (verdict settings codec (latest past).window octets)
     (has_none settings codec h) is
 has_none settings codec (Tick moment ∷ h) is = has_none settings codec h is
 has_none settings codec (Pull moment ∷ h) is =
@@ -309,12 +310,12 @@ has_none settings codec (Pull moment ∷ h) is =
     pull_none codec past moment (next_run (latest past)) (has_none settings codec h) is
 
 -- what is passed stays passed with a datagram
-datagram_passed : (codec : Meaning) (past : List Snapshot) (moment : ℕ) (v : Result (ℕ × Content) NotTaken) (n : ℕ) →
+datagram_passed : (source : Source) (past : List Snapshot) (moment : ℕ) (v : Result (ℕ × Content) NotTaken) (n : ℕ) →
     HasNone (latest past) → is_passed (latest past).front n ≡ true →
-    is_passed (after_datagram codec past moment v).front n ≡ true
-datagram_passed codec past moment (Err left) n none passed = passed
-datagram_passed codec past moment (Ok (m, content)) n none passed = let s : Snapshot =
-    latest past in front-stays s.front (last_pulled s.pulled) (after_placing m content s.window).packets n none passed
+    is_passed (after_datagram source past moment v).front n ≡ true
+datagram_passed source past moment (Err left) n none passed = passed
+datagram_passed source past moment (Ok (m, content)) n none passed = let s : Snapshot =
+    latest past in front-stays s.front (last_pulled s.pulled) (after_datagram source past moment (Ok (m, content))).window.packets n none passed
 
 -- and with a pull
 pull_passed : (codec : Meaning) (past : List Snapshot) (moment : ℕ) (o : Option Run) (n : ℕ) →
@@ -328,7 +329,7 @@ pub passed_stays : PassedStaysHolds
 unfolding snapshots
 passed_stays settings codec h (Datagram moment octets) n passed =
     let past : List Snapshot = snapshots settings codec h in
-    datagram_passed codec past moment (verdict settings codec (latest past).window octets) n
+    datagram_passed (source_in settings codec) past moment (verdict settings codec (latest past).window octets) n
     (has_none settings codec h) passed
 passed_stays settings codec h (Tick moment) n passed = passed
 passed_stays settings codec h (Pull moment) n passed =

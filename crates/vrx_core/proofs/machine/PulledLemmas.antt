@@ -5,13 +5,15 @@ use Rattle.std.proofs.lemmas.Bool.{leb-false, not-true}
 use Rattle.std.proofs.lemmas.List.Elements.{All-from_recursion, All-head}
 use Rattle.vrx_codec.specs.Meaning.{Meaning}
 use Rattle.vrx_window.specs.Content.{Content}
-use Rattle.vrx_window.specs.Window.{after_placing}
 use Rattle.vrx_frames.specs.Front.{front_after}
 use Rattle.vrx_frames.specs.Run.{Packets, Run, is_start, stands}
 use Rattle.vrx_frames.specs.IsRun.{RunsAre}
+use Rattle.vrx_repair.specs.Source.{Source}
 use Rattle.vrx_core.specs.machine.Verdict.{verdict}
-use Rattle.vrx_core.specs.machine.Standing.{began_after_end, no_layers, runs, standing_of}
-use Rattle.vrx_core.specs.machine.Machine.{Snapshot, latest, last_pulled, times, next_run, after_settling, after_datagram, after_pull, snapshots}
+use Rattle.vrx_core.specs.machine.Standing.{began_after_end, runs, standing_of}
+use Rattle.vrx_core.specs.machine.Told.{Told, place_told}
+use Rattle.vrx_core.specs.machine.Snapshot.{moved}
+use Rattle.vrx_core.specs.machine.Machine.{Snapshot, latest, last_pulled, times, next_run, after_settling, after_packet, after_datagram, after_pull, snapshots, source_in}
 use Rattle.vrx_core.specs.machine.PulledRise.{Rise, PulledRiseHolds}
 use Rattle.vrx_core.specs.declared.settings.Settings.{Settings}
 use Rattle.vrx_core.specs.declared.event.Event.{Event}
@@ -32,25 +34,25 @@ NoneEndsBefore rs = (run : Run) → Contains rs run → run.first ≤ run.last
 
 module _ (law : RunsAre) (codec : Meaning) where
   -- the runs that stand don't
-  standing-ends : (times : List Packets) (front last : Option ℕ) (packets : Packets) →
-      NoneEndsBefore (standing_of codec times front last packets)
-  standing-ends times front last packets run there =
-      ((law codec no_layers (is_start front (began_after_end times)) packets run).0
-      (filter-from (stands last) (runs codec times front packets) run there).0).not_empty
+  standing-ends : (told : Told) (times : List Packets) (front last : Option ℕ) (packets : Packets) →
+      NoneEndsBefore (standing_of codec told times front last packets)
+  standing-ends told times front last packets run there =
+      ((law codec (place_told told) (is_start front (began_after_end times)) packets run).0
+      (filter-from (stands last) (runs codec told times front packets) run there).0).not_empty
 
   -- so it is once a snapshot is settled
   after_settling-ends : (past : List Snapshot) (s : Snapshot) → NoneEndsBefore (after_settling codec past s).standing
   after_settling-ends past s =
       let front : Option ℕ = front_after s.front (last_pulled s.pulled) s.window.packets in
-      standing-ends (s.window.packets ∷ times past) front (last_pulled s.pulled) s.window.packets
+      standing-ends s.told (s.window.packets ∷ times past) front (last_pulled s.pulled) s.window.packets
 
   -- and after a datagram
-  datagram_ends : (past : List Snapshot) (moment : ℕ) (v : Result (ℕ × Content) NotTaken) →
-      NoneEndsBefore (latest past).standing → NoneEndsBefore (after_datagram codec past moment v).standing
-  datagram_ends past moment (Err left) ends = ends
-  datagram_ends past moment (Ok (n, content)) ends =
-      let s : Snapshot = latest past in
-      after_settling-ends past (record s { now = max s.now moment; window = after_placing n content s.window })
+  datagram_ends : (settings : Settings) (past : List Snapshot) (moment : ℕ) (v : Result (ℕ × Content) NotTaken) →
+      NoneEndsBefore (latest past).standing →
+      NoneEndsBefore (after_datagram (source_in settings codec) past moment v).standing
+  datagram_ends settings past moment (Err left) ends = ends
+  datagram_ends settings past moment (Ok (n, content)) ends =
+      after_settling-ends past (after_packet (source_in settings codec) n content (moved (latest past) moment))
 
   -- and after a pull
   pull_ends : (past : List Snapshot) (moment : ℕ) (o : Option Run) → NoneEndsBefore (latest past).standing →
@@ -67,7 +69,7 @@ module _ (law : RunsAre) (codec : Meaning) where
   standing_ends settings [] = λ run there. absurd (Contains-empty run there)
   standing_ends settings (Datagram moment octets ∷ h) =
       let past : List Snapshot = snapshots settings codec h in
-      datagram_ends past moment (verdict settings codec (latest past).window octets) (standing_ends settings h)
+      datagram_ends settings past moment (verdict settings codec (latest past).window octets) (standing_ends settings h)
   standing_ends settings (Tick moment ∷ h) = standing_ends settings h
   standing_ends settings (Pull moment ∷ h) =
       let past : List Snapshot = snapshots settings codec h in
@@ -78,14 +80,14 @@ module _ (law : RunsAre) (codec : Meaning) where
       (run.first ≤ run.last) × IfSome (last_pulled s.pulled) (λ last. last < run.first)
   given-rises s ends run is =
       let there : Contains s.standing run × (stands (last_pulled s.pulled) run ≡ true) =
-      answer-from (last_pulled s.pulled) s.front s.standing run is in
+      answer-from s.told s.pulled s.front s.standing run is in
       (ends run there.0, stands-beyond (last_pulled s.pulled) run there.1)
 
 -- a datagram leaves the frames pulled
-datagram_pulled : (codec : Meaning) (past : List Snapshot) (moment : ℕ) (v : Result (ℕ × Content) NotTaken) →
-    (after_datagram codec past moment v).pulled ≡ (latest past).pulled
-datagram_pulled codec past moment (Ok (n, content)) = refl
-datagram_pulled codec past moment (Err left) = refl
+datagram_pulled : (source : Source) (past : List Snapshot) (moment : ℕ) (v : Result (ℕ × Content) NotTaken) →
+    (after_datagram source past moment v).pulled ≡ (latest past).pulled
+datagram_pulled source past moment (Ok (n, content)) = refl
+datagram_pulled source past moment (Err left) = refl
 
 -- a pull puts the run that it gives first
 pull_rises : (codec : Meaning) (past : List Snapshot) (moment : ℕ) (o : Option Run) →
@@ -101,7 +103,7 @@ unfolding snapshots
 pulled_rise law settings codec [] = tt
 pulled_rise law settings codec (Datagram moment octets ∷ h) =
     let past : List Snapshot = snapshots settings codec h in
-    subst Rise (sym (datagram_pulled codec past moment (verdict settings codec (latest past).window octets)))
+    subst Rise (sym (datagram_pulled (source_in settings codec) past moment (verdict settings codec (latest past).window octets)))
     (pulled_rise law settings codec h)
 pulled_rise law settings codec (Tick moment ∷ h) = pulled_rise law settings codec h
 pulled_rise law settings codec (Pull moment ∷ h) =

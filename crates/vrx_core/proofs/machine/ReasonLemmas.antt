@@ -3,7 +3,6 @@ use Rattle.std.proofs.Common.{◌≡◌, ◌↔◌, ℕ, ◌+◌, ◌<◌, ◌�
 use Rattle.std.proofs.lemmas.Bool.{both_ways, leb-true, le-leb, false_from_ne_true}
 use Rattle.vrx_num.specs.Extended.{IsHalfAway, extended_number, GivesNoneHalfAway}
 use Rattle.vrx_num.specs.declared.limits.TheConstants.{WINDOW, HALF_SPACE}
-use Rattle.vrx_rtp.specs.Packet.{Packet}
 use Rattle.vrx_num.specs.Octets.{AreOctets}
 use Rattle.vrx_rtcp.specs.Laws.{PassesCompounds, FailsFaults}
 use Rattle.vrx_codec.specs.Meaning.{Meaning}
@@ -11,7 +10,7 @@ use Rattle.vrx_window.specs.Content.{Content, Media, Fec, Empty}
 use Rattle.vrx_window.specs.Window.{Contents, is_too_old, is_dead, is_available, would_of}
 use Rattle.vrx_window.specs.declared.placing.Placing.{Placing}
 use Rattle.vrx_window.specs.declared.placing.Placing.TheVariants as placings
-use Rattle.vrx_core.specs.machine.Original.{Original, original}
+use Rattle.vrx_core.specs.machine.Original.{Original, Carried, original, seq_of}
 use Rattle.vrx_core.specs.machine.Verdict.{verdict, if_fresh}
 use Rattle.vrx_num.specs.ResultChain.{◌>>=◌}
 use Rattle.vrx_core.specs.machine.Machine.{what_of}
@@ -21,7 +20,7 @@ use Rattle.vrx_core.specs.declared.original.NotTaken.{NotTaken}
 use Rattle.vrx_core.specs.declared.original.NotTaken.TheVariants.{Control, Refused}
 use Rattle.vrx_core.specs.declared.reply.What.{What}
 use Rattle.vrx_core.specs.declared.reply.What.TheVariants as whats
-use Rattle.vrx_core.specs.declared.reply.Reason.TheVariants.{TooLong, BadRtcp, NotRtp, BadHeader, OtherSsrc, OtherType, NoApt, RtxEmpty, MoreBlocks, BadRed, BadFec, BadPart, Form, TooFar, TooOld, Dead, Repeat}
+use Rattle.vrx_core.specs.declared.reply.Reason.TheVariants.{TooLong, BadRtcp, NotRtp, BadHeader, OtherSsrc, OtherType, NoApt, RtxEmpty, MoreBlocks, BadRed, BadFec, BadPart, TooFar, TooOld, Dead, Repeat}
 use Rattle.vrx_core.proofs.machine.OriginalLemmas.{Said, original-to, aside-is, brought-is, seq-below}
 use Rattle.vrx_core.proofs.machine.SentLemmas.{Wraps}
 use Rattle.vrx_core.proofs.machine.TextLemmas.{ReadsPacket}
@@ -73,9 +72,9 @@ module _ (wraps : Wraps) (reads : ReadsPacket) (passes : PassesCompounds) (fails
   table r = r >>= λ packet. numbered packet.content (extended_number window.newest packet.wire)
 
   -- a wire number has 16 bits
-  wire-below : (packet : Packet) (content : Content) → IsBrought settings codec octets packet content →
-      packet.seq < 65536
-  wire-below packet content is = seq-below wraps reads passes fails settings codec octets octet packet is.stream
+  wire-below : (carried : Carried) (content : Content) → IsBrought settings codec octets carried content →
+      seq_of carried < 65536
+  wire-below carried content is = seq-below wraps reads passes fails settings codec octets octet carried is.stream
 
   -- the place of a number says what is so
   means_placed : (n : ℕ) (content : Content) → IsNumbered settings codec window.newest octets n content →
@@ -91,13 +90,17 @@ module _ (wraps : Wraps) (reads : ReadsPacket) (passes : PassesCompounds) (fails
       (is, not_below-to window.newest n is_old, dies, stands)
 
   -- and so does a number, if there is one
-  means_numbered : (packet : Packet) (content : Content) → IsBrought settings codec octets packet content →
-      (number : Option ℕ) → extended_number window.newest packet.seq ≡ number →
+  means_numbered : (carried : Carried) (content : Content) → IsBrought settings codec octets carried content →
+      (number : Option ℕ) → extended_number window.newest (seq_of carried) ≡ number →
       Means settings codec window octets (numbered content number)
-  means_numbered packet content is None number =
-      (packet, content, is, half_away-to none window.newest packet.seq from (wire-below packet content is) number)
-  means_numbered packet content is (Some n) number =
-      means_placed n content (record { packet = packet; brought = is; number = number }) (is_too_old window.newest n)
+  means_numbered carried content is None number = (
+    carried,
+    content,
+    is,
+    half_away-to none window.newest (seq_of carried) from (wire-below carried content is) number,
+  )
+  means_numbered carried content is (Some n) number =
+      means_placed n content (record { carried = carried; brought = is; number = number }) (is_too_old window.newest n)
       (is_dead n window.dead) (is_available n window.packets) refl refl refl
 
   -- an answer that octets get by themselves is what the verdict means
@@ -114,7 +117,6 @@ module _ (wraps : Wraps) (reads : ReadsPacket) (passes : PassesCompounds) (fails
   means_aside (Refused BadHeader) m = m
   means_aside (Refused OtherSsrc) m = m
   means_aside (Refused OtherType) m = m
-  means_aside (Refused Form) m = m
   means_aside (Refused NoApt) m = m
   means_aside (Refused RtxEmpty) m = m
   means_aside (Refused MoreBlocks) m = m
@@ -143,11 +145,11 @@ module _ (wraps : Wraps) (reads : ReadsPacket) (passes : PassesCompounds) (fails
   table_is r is = ap table is
 
   -- of a packet of the stream that brings this, its number decides
-  brought_is : (packet : Packet) (content : Content) → IsBrought settings codec octets packet content →
-      verdict settings codec window octets ≡ numbered content (extended_number window.newest packet.seq)
-  brought_is packet content is =
-      table_is (Ok (record { wire = packet.seq; content = content }))
-      (brought-is wraps reads passes fails settings codec octets octet packet content is)
+  brought_is : (carried : Carried) (content : Content) → IsBrought settings codec octets carried content →
+      verdict settings codec window octets ≡ numbered content (extended_number window.newest (seq_of carried))
+  brought_is carried content is =
+      table_is (Ok (record { wire = seq_of carried; content = content }))
+      (brought-is wraps reads passes fails settings codec octets octet carried content is)
 
   -- and of a number its place
   numbered_is : (n : ℕ) (content : Content) → IsNumbered settings codec window.newest octets n content →
@@ -155,7 +157,7 @@ module _ (wraps : Wraps) (reads : ReadsPacket) (passes : PassesCompounds) (fails
       is_available n window.packets ≡ there
       → verdict settings codec window octets ≡ if_fresh (placing old dead there) (n, content)
   numbered_is n content is old dead there is_old dies stands =
-      brought_is is.packet content is.brought
+      brought_is is.carried content is.brought
       ∙ ap (numbered content) is.number
       ∙ ap (λ b. if_fresh (placing b (is_dead n window.dead) (is_available n window.packets)) (n, content)) is_old
       ∙ ap (λ b. if_fresh (placing old b (is_available n window.packets)) (n, content)) dies
@@ -170,7 +172,7 @@ module _ (wraps : Wraps) (reads : ReadsPacket) (passes : PassesCompounds) (fails
   pub verdict-from : (r : Result (ℕ × Content) NotTaken) → Means settings codec window octets r →
       verdict settings codec window octets ≡ r
   verdict-from (Err (Refused TooFar)) m = brought_is m.0 m.1 m.2
-      ∙ ap (numbered m.1) (half_away-from none window.newest m.0.seq from (wire-below m.0 m.1 m.2) m.3)
+      ∙ ap (numbered m.1) (half_away-from none window.newest (seq_of m.0) from (wire-below m.0 m.1 m.2) m.3)
   verdict-from (Err (Refused TooOld)) m =
       numbered_is m.0 m.1 m.2 true (is_dead m.0 window.dead) (is_available m.0 window.packets)
       (below-from window.newest m.0 m.3) refl refl
@@ -186,7 +188,6 @@ module _ (wraps : Wraps) (reads : ReadsPacket) (passes : PassesCompounds) (fails
   verdict-from (Err (Refused BadHeader)) m = aside_is (Refused BadHeader) m
   verdict-from (Err (Refused OtherSsrc)) m = aside_is (Refused OtherSsrc) m
   verdict-from (Err (Refused OtherType)) m = aside_is (Refused OtherType) m
-  verdict-from (Err (Refused Form)) m = aside_is (Refused Form) m
   verdict-from (Err (Refused NoApt)) m = aside_is (Refused NoApt) m
   verdict-from (Err (Refused RtxEmpty)) m = aside_is (Refused RtxEmpty) m
   verdict-from (Err (Refused MoreBlocks)) m = aside_is (Refused MoreBlocks) m
@@ -218,7 +219,8 @@ answers_mean law settings codec window octets octet from given is what =
           what_of result ≡ w → MeansAnswer settings codec window octets w
       to (Ok (n, Media text)) v w same =
           subst (MeansAnswer settings codec window octets) same (text, (holds (Ok (n, Media text))).0 v)
-      to (Ok (n, Fec payload)) v w same = absurd (((holds (Ok (n, Fec payload))).0 v).0.brought.brings)
+      to (Ok (n, Fec payload)) v w same =
+          subst (MeansAnswer settings codec window octets) same (payload, (holds (Ok (n, Fec payload))).0 v)
       to (Ok (n, Empty)) v w same =
           subst (MeansAnswer settings codec window octets) same ((holds (Ok (n, Empty))).0 v)
       to (Err Control) v w same = subst (MeansAnswer settings codec window octets) same ((holds (Err Control)).0 v)
@@ -231,4 +233,4 @@ answers_mean law settings codec window octets octet from given is what =
       back (whats.Empty n) m = ap what_of ((holds (Ok (n, Empty))).1 m)
       back whats.Rtcp m = ap what_of ((holds (Err Control)).1 m)
       back (whats.Dropped reason) m = ap what_of ((holds (Err (Refused reason))).1 m)
-      back (whats.Fec n) m = absurd m
+      back (whats.Fec n) (payload, m) = ap what_of ((holds (Ok (n, Fec payload))).1 m)

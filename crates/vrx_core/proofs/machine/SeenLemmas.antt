@@ -20,9 +20,9 @@ use Rattle.vrx_wrap.specs.Red.{Block, block_of}
 use Rattle.vrx_wrap.specs.Rtx.{IsOriginal, original_type, original_of as rtx_original}
 use Rattle.vrx_wrap.specs.declared.red.RedFault.{RedFault}
 use Rattle.vrx_wrap.specs.declared.red.RedFault.TheVariants as reds
-use Rattle.vrx_core.specs.machine.Original.{apt_of, as_media, from_block, is_red_type, media_packet, original_from, out_of_red, red_pair, rtx_reason}
+use Rattle.vrx_core.specs.machine.Original.{Carried, Plain, Parity, apt_of, as_media, from_block, is_fec_type, is_red_type, media_packet, original_from, out_of_red, red_pair, rtx_reason}
 use Rattle.vrx_core.specs.machine.Text.{without_padding, packet_text}
-use Rattle.vrx_core.specs.inside.Seen.{HasTypes, IsSeen, Says, packet_brought}
+use Rattle.vrx_core.specs.inside.Seen.{HasTypes, IsSeen, Says, packet_brought, packet_in}
 use Rattle.vrx_core.specs.declared.original.PacketSeen.{PacketSeen}
 use Rattle.vrx_core.specs.declared.reply.Reason.{Reason}
 use Rattle.vrx_core.specs.declared.reply.Reason.TheVariants.{OtherSsrc, OtherType, BadRed}
@@ -249,45 +249,70 @@ module _ (one : HasOneOriginal) (settings : Settings) (types : HasTypes settings
 
 -- ---- out of RED
 
+-- what a result has, by a function of it
+taken-by : {X E : Type 0} (f : X → Packet) (x : X) (p : Packet) →
+    ◌≡◌ {A = Result Packet E} (result_map_both f (λ e. e) (Ok x)) (Ok p) → f x ≡ p
+taken-by f x p h = same_Some (f x) p (ap result_ok h)
+
 module _ (one : HasOneBlock) (settings : Settings) (types : HasTypes settings) (bound : ℕ) (sent : Packet)
-    (well : IsWell bound sent) (plain : Packet) where
+    (well : IsWell bound sent) where
   -- the media packet of a payload that is the end of the RED payload
-  media-well : (front rest : List ℕ) → sent.payload ≡ front ++ rest → as_media settings sent rest ≡ plain →
+  media-well : (front rest : List ℕ) → sent.payload ≡ front ++ rest → IsWell bound (as_media settings sent rest)
+  media-well front rest spelled =
+      shorter-well bound sent (as_media settings sent rest) front well types.media well.fits.seq refl well.fits.ssrc
+      refl refl well.fits.padding spelled
+
+  -- and the FEC packet
+  parity-well : (front rest : List ℕ) → sent.payload ≡ front ++ rest → IsWell bound (record sent { payload = rest })
+  parity-well front rest spelled =
+      shorter-well bound sent (record sent { payload = rest }) front well well.fits.pt well.fits.seq refl
+      well.fits.ssrc refl refl well.fits.padding spelled
+
+  -- what is carried, if anything is
+  abbrev AllWell : Result Carried Reason → Type 0
+  AllWell r = IfOk r (λ carried. IsWell bound (packet_in carried))
+
+  by_block : (block : Block) → sent.payload ≡ block.pt ∷ block.rest → (media fec : Bool) →
+      AllWell (if media then Ok (Plain (as_media settings sent block.rest))
+      else if fec then Ok (Parity (record sent { payload = block.rest })) else Err BadRed)
+  by_block block spelled true fec = media-well (block.pt ∷ []) block.rest spelled
+  by_block block spelled false true = parity-well (block.pt ∷ []) block.rest spelled
+  by_block block spelled false false = tt
+
+  block-well : (r : Result Block RedFault) → block_of sent.payload ≡ r → AllWell (from_block settings sent r)
+  block-well (Err reds.Empty) is = media-well sent.payload [] (sym (append-nil sent.payload))
+  block-well (Err reds.MoreBlocks) is = tt
+  block-well (Ok block) is =
+      by_block block ((one sent.payload block).0 is).spelled (block.pt == settings.media_type)
+      (is_fec_type settings block.pt)
+
+  by_red : (b : Bool) →
+      AllWell (if b then from_block settings sent (block_of sent.payload) else Ok (Plain sent))
+  by_red true = block-well (block_of sent.payload) refl
+  by_red false = well
+
+  carried-well : AllWell (out_of_red settings sent)
+  carried-well = by_red (is_red_type settings sent.pt)
+
+  -- the packet of what is carried
+  out-well : (plain : Packet) → result_map_both packet_in (λ reason. reason) (out_of_red settings sent) ≡ Ok plain →
       IsWell bound plain
-  media-well front rest spelled same = subst (IsWell bound) same
-      (shorter-well bound sent (as_media settings sent rest) front well types.media well.fits.seq refl well.fits.ssrc
-      refl refl well.fits.padding spelled)
+  out-well plain = by (out_of_red settings sent) carried-well where
+    by : (r : Result Carried Reason) → AllWell r → result_map_both packet_in (λ reason. reason) r ≡ Ok plain →
+        IsWell bound plain
+    by (Ok carried) all h = subst (IsWell bound) (taken-by packet_in carried plain h) all
+    by (Err reason) all h = absurd cc
 
-  by_block : (block : Block) → sent.payload ≡ block.pt ∷ block.rest → (b : Bool) →
-      (if b then Ok (as_media settings sent block.rest) else Err BadRed) ≡ Ok plain → IsWell bound plain
-  by_block block spelled true h = media-well (block.pt ∷ []) block.rest spelled (same_Some _ plain (ap result_ok h))
-  by_block block spelled false h = absurd cc
-
-  block-well : (r : Result Block RedFault) → block_of sent.payload ≡ r → from_block settings sent r ≡ Ok plain →
-      IsWell bound plain
-  block-well (Err reds.Empty) is h =
-      media-well sent.payload [] (sym (append-nil sent.payload)) (same_Some _ plain (ap result_ok h))
-  block-well (Err reds.MoreBlocks) is h = absurd cc
-  block-well (Ok block) is h =
-      by_block block ((one sent.payload block).0 is).spelled (block.pt == settings.media_type) h
-
-  by_red : (b : Bool) → (if b then from_block settings sent (block_of sent.payload) else Ok sent) ≡ Ok plain →
-      IsWell bound plain
-  by_red true h = block-well (block_of sent.payload) refl h
-  by_red false h = subst (IsWell bound) (same_Some sent plain (ap result_ok h)) well
-
-  plain-well : out_of_red settings sent ≡ Ok plain → IsWell bound plain
-  plain-well h = by_red (is_red_type settings sent.pt) h
-
--- the media packet that octets bring
+-- the packet that octets bring
 pub brought-well : HasOneOriginal → HasOneBlock → (settings : Settings) → HasTypes settings →
     settings.media_ssrc < 4294967296 → (bound : ℕ) (packet plain : Packet) → IsWell bound packet →
     packet_brought settings packet ≡ Ok plain → IsWell bound plain
 brought-well original block settings types source bound packet plain well =
     by (media_packet settings packet) refl where
-      by : (r : Result Packet Reason) → media_packet settings packet ≡ r → (r >>= λ sent. out_of_red settings sent) ≡ Ok plain →
+      by : (r : Result Packet Reason) → media_packet settings packet ≡ r →
+          (r >>= λ sent. result_map_both packet_in (λ reason. reason) (out_of_red settings sent)) ≡ Ok plain →
           IsWell bound plain
-      by (Ok sent) is h = plain-well block settings types bound sent
+      by (Ok sent) is h = out-well block settings types bound sent
           (sent-well original settings types source bound packet well sent is) plain h
       by (Err reason) is h = absurd cc
 

@@ -1,7 +1,7 @@
 -- Which packet of the media source a packet is, and what it has in RED.
 use Rattle.std.proofs.Common.{◌≡◌, ◌≢◌, ℕ, ◌<◌, ◌==◌, ◌||◌, Bool, true, false, if◌then◌else◌, List, [], ◌++◌, length, Option, Some, None, IfSome, Result, Ok, Err, refl, sym, ◌∙◌, ap, subst, inl, inr}
 use Rattle.std.specs.Prelude.{IsSomeAnd}
-use Rattle.std.specs.Option.{option_map_or}
+use Rattle.std.specs.Option.{option_and_then, option_map_or}
 use Rattle.std.specs.Result.{result_map_both}
 use Rattle.std.proofs.lemmas.Bool.{both_ways, eqb-true, eqb-false, eq-eqb, ne_eqb, or_left, or_right, or_from, false_from_ne_true}
 use Rattle.std.proofs.lemmas.List.{drop_at}
@@ -14,17 +14,18 @@ use Rattle.vrx_wrap.specs.declared.rtx.RtxFault.{RtxFault}
 use Rattle.vrx_wrap.specs.declared.rtx.RtxFault.TheVariants as faults
 use Rattle.vrx_wrap.specs.Red.{Block, IsRed, HasMore, block_of}
 use Rattle.vrx_wrap.specs.Rtx.{IsRtxType, original_of as rtx_original}
+use Rattle.vrx_fec.specs.Laws.{ReadsPayloads}
 use Rattle.vrx_wrap.specs.Laws.{HasOneBlock, FailsEmpty, FailsMoreBlocks, HasOneOriginal, FailsNoApt, FailsRtxEmpty}
-use Rattle.vrx_core.specs.machine.Original.{apt_of, as_media, from_block, is_red_type, media_packet, original_from, out_of_red, rtx_reason}
-use Rattle.vrx_core.specs.machine.Reasons.{IsAgain, IsBlockOf, IsDirect, IsOrAgain, IsOrInRed, IsRedType}
+use Rattle.vrx_core.specs.machine.Original.{Carried, Plain, Parity, apt_of, as_media, from_block, is_fec_type, is_red_type, media_packet, original_from, out_of_red, rtx_reason}
+use Rattle.vrx_core.specs.machine.Reasons.{CarriesOut, IsAgain, IsBlockOf, IsDirect, IsFecInRed, IsFecType, IsOrAgain, IsRedType}
 use Rattle.vrx_core.specs.declared.settings.Red.{Red}
 use Rattle.vrx_core.specs.declared.settings.Rtx.{Rtx}
 use Rattle.vrx_core.specs.declared.settings.Settings.{Settings}
 use Rattle.vrx_core.specs.declared.reply.Reason.{Reason}
-use Rattle.vrx_core.specs.declared.reply.Reason.TheVariants.{TooLong, BadRtcp, NotRtp, BadHeader, OtherSsrc, OtherType, NoApt, RtxEmpty, MoreBlocks, BadRed, BadFec, BadPart, TooFar, TooOld, Dead, Repeat, Form}
+use Rattle.vrx_core.specs.declared.reply.Reason.TheVariants.{TooLong, BadRtcp, NotRtp, BadHeader, OtherSsrc, OtherType, NoApt, RtxEmpty, MoreBlocks, BadRed, BadFec, BadPart, TooFar, TooOld, Dead, Repeat}
 use Rattle.vrx_core.proofs.machine.TextLemmas.{first-octets}
 
--- the laws of what wraps a packet
+-- the laws of what wraps a packet, and of what is in it
 pub record Wraps : Type 0 where
   pub one_original : HasOneOriginal
   pub no_apt : FailsNoApt
@@ -32,11 +33,12 @@ pub record Wraps : Type 0 where
   pub one_block : HasOneBlock
   pub empty : FailsEmpty
   pub more_blocks : FailsMoreBlocks
+  pub one_payload : ReadsPayloads
 
 -- ---- the octets of a payload
 
 -- the second of two lists of octets
-last-octets : (xs ys : List ℕ) → AreOctets (xs ++ ys) → AreOctets ys
+pub last-octets : (xs ys : List ℕ) → AreOctets (xs ++ ys) → AreOctets ys
 last-octets xs ys all =
     subst AreOctets (drop_at xs ys (length xs) refl) (All-drop (λ octet. octet < 256) (length xs) (xs ++ ys) all)
 
@@ -47,7 +49,7 @@ payload-octets octets p is below =
     (first-octets (fixed_header p ++ p.csrc ++ extension_octets p.extension ++ p.payload)
     (padding_octets is.filler p.padding) (subst AreOctets is.spelled below))
 
--- ---- the payload type of RED
+-- ---- the payload types of RED and of FEC
 
 -- a payload type is that of RED, as the test says it
 red-to : (o : Option Red) (pt : ℕ) → option_map_or (λ red. red.red_type == pt) o false ≡ true →
@@ -59,6 +61,22 @@ red-from : (o : Option Red) (pt : ℕ) → IsSomeAnd o (λ red. red.red_type ≡
     option_map_or (λ red. red.red_type == pt) o false ≡ true
 red-from None pt is = absurd is
 red-from (Some red) pt is = eq-eqb red.red_type pt is
+
+-- a payload type is that of FEC, as the test says it
+fec-to : (o : Option Red) (pt : ℕ) →
+    option_map_or (λ fec_type. fec_type == pt) (option_and_then (λ red. red.fec_type) o) false ≡ true →
+    IsSomeAnd o (λ red. red.fec_type ≡ Some pt)
+fec-to None pt h = absurd (cc)
+fec-to (Some red) pt h = by red.fec_type h where
+  by : (fec : Option ℕ) → option_map_or (λ fec_type. fec_type == pt) fec false ≡ true → fec ≡ Some pt
+  by None h' = absurd (cc)
+  by (Some fec_type) h' = ap (λ n. Some n) (eqb-true fec_type pt h')
+
+fec-from : (o : Option Red) (pt : ℕ) → IsSomeAnd o (λ red. red.fec_type ≡ Some pt) →
+    option_map_or (λ fec_type. fec_type == pt) (option_and_then (λ red. red.fec_type) o) false ≡ true
+fec-from None pt is = absurd is
+fec-from (Some red) pt is =
+    ap (λ (fec : Option ℕ). option_map_or (λ fec_type. fec_type == pt) fec false) is ∙ eq-eqb pt pt refl
 
 module _ (settings : Settings) where
   red_type-to : (pt : ℕ) → is_red_type settings pt ≡ true → IsRedType settings pt
@@ -73,6 +91,18 @@ module _ (settings : Settings) where
 
   other_type-from : (pt : ℕ) → (IsRedType settings pt → ⊥) → is_red_type settings pt ≡ false
   other_type-from pt other = false_from_ne_true (is_red_type settings pt) (λ h. other (red_type-to pt h))
+
+  fec_type-to : (pt : ℕ) → is_fec_type settings pt ≡ true → IsFecType settings pt
+  fec_type-to pt h = fec-to settings.red pt h
+
+  fec_type-from : (pt : ℕ) → IsFecType settings pt → is_fec_type settings pt ≡ true
+  fec_type-from pt is = fec-from settings.red pt is
+
+  no_fec-to : (pt : ℕ) → is_fec_type settings pt ≡ false → IsFecType settings pt → ⊥
+  no_fec-to pt h is = both_ways (is_fec_type settings pt) h (fec_type-from pt is)
+
+  no_fec-from : (pt : ℕ) → (IsFecType settings pt → ⊥) → is_fec_type settings pt ≡ false
+  no_fec-from pt other = false_from_ne_true (is_fec_type settings pt) (λ h. other (fec_type-to pt h))
 
   -- ---- the packet of the media source
 
@@ -224,27 +254,29 @@ module _ (settings : Settings) where
     sent-is packet are (Err TooOld) says = absurd says
     sent-is packet are (Err Dead) says = absurd says
     sent-is packet are (Err Repeat) says = absurd says
-    sent-is packet are (Err Form) says = absurd says
 
-  -- ---- the packet in RED
+  -- ---- what is in RED
 
-  -- what it means that a packet of the media source is or has this one, or none
-  abbrev pub SaysPlain : Packet → Result Packet Reason → Type 0
-  SaysPlain sent (Ok plain) = IsOrInRed settings sent plain
-  SaysPlain sent (Err MoreBlocks) = IsRedType settings sent.pt × HasMore sent.payload
-  SaysPlain sent (Err BadRed) = IsRedType settings sent.pt
+  -- what it means that a packet of the media source carries this, or nothing
+  abbrev pub SaysCarried : Packet → Result Carried Reason → Type 0
+  SaysCarried sent (Ok carried) = CarriesOut settings sent carried
+  SaysCarried sent (Err MoreBlocks) = IsRedType settings sent.pt × HasMore sent.payload
+  SaysCarried sent (Err BadRed) = IsRedType settings sent.pt
       × (block : Block) × IsRed sent.payload block × (block.pt ≢ settings.media_type)
-  SaysPlain sent (Err _) = ⊥
+      × (IsFecType settings block.pt → ⊥)
+  SaysCarried sent (Err _) = ⊥
 
   -- a packet, by whether it is in RED
-  abbrev by_red : Bool → Packet → Result Packet Reason
-  by_red red sent = if red then from_block settings sent (block_of sent.payload) else Ok sent
+  abbrev by_red : Bool → Packet → Result Carried Reason
+  by_red red sent = if red then from_block settings sent (block_of sent.payload) else Ok (Plain sent)
 
-  -- a packet in RED, by the type of its block
-  abbrev by_block : Bool → Packet → List ℕ → Result Packet Reason
-  by_block media sent rest = if media then Ok (as_media settings sent rest) else Err BadRed
+  -- a packet in RED, by the type of its block: it is that of media, or that of FEC
+  abbrev by_block : (media fec : Bool) → Packet → List ℕ → Result Carried Reason
+  by_block media fec sent rest =
+      if media then Ok (Plain (as_media settings sent rest))
+      else if fec then Ok (Parity (record sent { payload = rest })) else Err BadRed
 
-  plain_is : (sent : Packet) → (IsRedType settings sent.pt → ⊥) → out_of_red settings sent ≡ Ok sent
+  plain_is : (sent : Packet) → (IsRedType settings sent.pt → ⊥) → out_of_red settings sent ≡ Ok (Plain sent)
   plain_is sent other = ap (λ b. by_red b sent) (other_type-from sent.pt other)
 
   in_red_is : (sent : Packet) → IsRedType settings sent.pt → (r : Result Block RedFault) → block_of sent.payload ≡ r →
@@ -252,11 +284,17 @@ module _ (settings : Settings) where
   in_red_is sent red r is =
       ap (λ b. by_red b sent) (red_type-from sent.pt red) ∙ ap (from_block settings sent) is
 
+  -- a block of another type than media
+  other_block : (sent : Packet) (block : Block) → block.pt ≢ settings.media_type →
+      from_block settings sent (Ok block) ≡ by_block false (is_fec_type settings block.pt) sent block.rest
+  other_block sent block other =
+      ap (λ b. by_block b (is_fec_type settings block.pt) sent block.rest) (ne_eqb block.pt settings.media_type other)
+
   module _ (wraps : Wraps) where
     says_block : (sent : Packet) → IsRedType settings sent.pt → (block : Block) → IsRed sent.payload block →
-        (media : Bool) → (block.pt == settings.media_type) ≡ media →
-        SaysPlain sent (by_block media sent block.rest)
-    says_block sent red block has true is =
+        (media fec : Bool) → (block.pt == settings.media_type) ≡ media → is_fec_type settings block.pt ≡ fec →
+        SaysCarried sent (by_block media fec sent block.rest)
+    says_block sent red block has true fec is is_fec =
         inr (record {
           red = red;
           rest = block.rest;
@@ -264,10 +302,19 @@ module _ (settings : Settings) where
               (eqb-true block.pt settings.media_type is) has);
           same = refl;
         })
-    says_block sent red block has false is = (red, block, has, eqb-false block.pt settings.media_type is)
+    says_block sent red block has false true is is_fec = record {
+      red = red;
+      block = block;
+      has = has;
+      other = eqb-false block.pt settings.media_type is;
+      fec = fec_type-to block.pt is_fec;
+      same = refl;
+    }
+    says_block sent red block has false false is is_fec =
+        (red, block, has, eqb-false block.pt settings.media_type is, no_fec-to block.pt is_fec)
 
     says_red : (sent : Packet) → IsRedType settings sent.pt → (r : Result Block RedFault) →
-        block_of sent.payload ≡ r → SaysPlain sent (from_block settings sent r)
+        block_of sent.payload ≡ r → SaysCarried sent (from_block settings sent r)
     says_red sent red (Err reds.Empty) is =
         inr (record {
           red = red;
@@ -277,54 +324,67 @@ module _ (settings : Settings) where
         })
     says_red sent red (Err reds.MoreBlocks) is = (red, (wraps.more_blocks sent.payload).0 is)
     says_red sent red (Ok block) is =
-        says_block sent red block ((wraps.one_block sent.payload block).0 is) (block.pt == settings.media_type) refl
+        says_block sent red block ((wraps.one_block sent.payload block).0 is) (block.pt == settings.media_type)
+        (is_fec_type settings block.pt) refl refl
 
-    says_plain : (sent : Packet) (red : Bool) → is_red_type settings sent.pt ≡ red →
-        SaysPlain sent (by_red red sent)
-    says_plain sent true is = says_red sent (red_type-to sent.pt is) (block_of sent.payload) refl
-    says_plain sent false is = inl (other_type-to sent.pt is, refl)
+    says_out : (sent : Packet) (red : Bool) → is_red_type settings sent.pt ≡ red →
+        SaysCarried sent (by_red red sent)
+    says_out sent true is = says_red sent (red_type-to sent.pt is) (block_of sent.payload) refl
+    says_out sent false is = inl (other_type-to sent.pt is, refl)
 
-    -- a packet has only what that means
-    pub plain-says : (sent : Packet) → SaysPlain sent (out_of_red settings sent)
-    plain-says sent = says_plain sent (is_red_type settings sent.pt) refl
+    -- a packet carries only what that means
+    pub carried-says : (sent : Packet) → SaysCarried sent (out_of_red settings sent)
+    carried-says sent = says_out sent (is_red_type settings sent.pt) refl
 
     -- a RED payload that brings this one
     block_is : (sent : Packet) → IsRedType settings sent.pt → (rest : List ℕ) →
-        IsBlockOf settings sent.payload rest → out_of_red settings sent ≡ Ok (as_media settings sent rest)
+        IsBlockOf settings sent.payload rest → out_of_red settings sent ≡ Ok (Plain (as_media settings sent rest))
     block_is sent red rest (inl (none, is)) =
         in_red_is sent red (Err reds.Empty) ((wraps.empty sent.payload).1 none)
-        ∙ ap (λ x. by_block true sent x) (sym is)
+        ∙ ap (λ x. by_block true true sent x) (sym is)
     block_is sent red rest (inr has) =
         in_red_is sent red (Ok (record { pt = settings.media_type; rest = rest }))
         ((wraps.one_block sent.payload (record { pt = settings.media_type; rest = rest })).1 has)
-        ∙ ap (λ b. by_block b sent rest) (eq-eqb settings.media_type settings.media_type refl)
+        ∙ ap (λ b. by_block b (is_fec_type settings settings.media_type) sent rest)
+        (eq-eqb settings.media_type settings.media_type refl)
 
-    -- and has what is so
-    pub plain-is : (sent : Packet) (r : Result Packet Reason) → SaysPlain sent r → out_of_red settings sent ≡ r
-    plain-is sent (Ok plain) (inl (other, same)) = plain_is sent other ∙ ap given (sym same) where
-      given : Packet → Result Packet Reason
-      given p = Ok p
-    plain-is sent (Ok plain) (inr is) =
+    -- and so it is of the FEC packet
+    parity_is : (sent parity : Packet) → IsFecInRed settings sent parity → out_of_red settings sent ≡ Ok (Parity parity)
+    parity_is sent parity is =
+        in_red_is sent is.red (Ok is.block) ((wraps.one_block sent.payload is.block).1 is.has)
+        ∙ other_block sent is.block is.other
+        ∙ ap (λ b. by_block false b sent is.block.rest) (fec_type-from is.block.pt is.fec)
+        ∙ ap given (sym is.same) where
+          given : Packet → Result Carried Reason
+          given p = Ok (Parity p)
+
+    -- and carries what is so
+    pub carried-is : (sent : Packet) (r : Result Carried Reason) → SaysCarried sent r → out_of_red settings sent ≡ r
+    carried-is sent (Ok (Plain plain)) (inl (other, same)) = plain_is sent other ∙ ap given (sym same) where
+      given : Packet → Result Carried Reason
+      given p = Ok (Plain p)
+    carried-is sent (Ok (Plain plain)) (inr is) =
         block_is sent is.red is.rest is.block ∙ ap given (sym is.same) where
-          given : Packet → Result Packet Reason
-          given p = Ok p
-    plain-is sent (Err MoreBlocks) says =
+          given : Packet → Result Carried Reason
+          given p = Ok (Plain p)
+    carried-is sent (Ok (Parity parity)) is = parity_is sent parity is
+    carried-is sent (Err MoreBlocks) says =
         in_red_is sent says.0 (Err reds.MoreBlocks) ((wraps.more_blocks sent.payload).1 says.1)
-    plain-is sent (Err BadRed) says =
+    carried-is sent (Err BadRed) says =
         in_red_is sent says.0 (Ok says.1) ((wraps.one_block sent.payload says.1).1 says.2)
-        ∙ ap (λ b. by_block b sent says.1.rest) (ne_eqb says.1.pt settings.media_type says.3)
-    plain-is sent (Err TooLong) says = absurd says
-    plain-is sent (Err BadRtcp) says = absurd says
-    plain-is sent (Err NotRtp) says = absurd says
-    plain-is sent (Err BadHeader) says = absurd says
-    plain-is sent (Err OtherSsrc) says = absurd says
-    plain-is sent (Err OtherType) says = absurd says
-    plain-is sent (Err NoApt) says = absurd says
-    plain-is sent (Err RtxEmpty) says = absurd says
-    plain-is sent (Err BadFec) says = absurd says
-    plain-is sent (Err (BadPart code)) says = absurd says
-    plain-is sent (Err TooFar) says = absurd says
-    plain-is sent (Err TooOld) says = absurd says
-    plain-is sent (Err Dead) says = absurd says
-    plain-is sent (Err Repeat) says = absurd says
-    plain-is sent (Err Form) says = absurd says
+        ∙ other_block sent says.1 says.3
+        ∙ ap (λ b. by_block false b sent says.1.rest) (no_fec-from says.1.pt says.4)
+    carried-is sent (Err TooLong) says = absurd says
+    carried-is sent (Err BadRtcp) says = absurd says
+    carried-is sent (Err NotRtp) says = absurd says
+    carried-is sent (Err BadHeader) says = absurd says
+    carried-is sent (Err OtherSsrc) says = absurd says
+    carried-is sent (Err OtherType) says = absurd says
+    carried-is sent (Err NoApt) says = absurd says
+    carried-is sent (Err RtxEmpty) says = absurd says
+    carried-is sent (Err BadFec) says = absurd says
+    carried-is sent (Err (BadPart code)) says = absurd says
+    carried-is sent (Err TooFar) says = absurd says
+    carried-is sent (Err TooOld) says = absurd says
+    carried-is sent (Err Dead) says = absurd says
+    carried-is sent (Err Repeat) says = absurd says

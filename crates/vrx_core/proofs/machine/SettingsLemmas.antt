@@ -7,12 +7,12 @@ use Rattle.std.specs.Result.{IsErrOf}
 use Rattle.std.proofs.lemmas.Bool.{or_cases, or_left, or_right, and_parts, and_from, leb-true, ltb-true, ltb-false, le-leb, lt-ltb, eqb-true, eq-eqb, false≢true, true≢false}
 use Rattle.std.proofs.lemmas.List.Folds.{Any-from_list_any, list_any-from_Any}
 use Rattle.std.proofs.lemmas.Option.{none-some, same_Some}
-use Rattle.vrx_core.specs.machine.SettingsFault.{values_in, types_of, ssrcs_of, IsBadType, HasEqual, Says, IsFault, is_bad_type, holds, has_equal, lacks_red, is_bad_interval, is_later, first_of, fault_of}
+use Rattle.vrx_core.specs.machine.SettingsFault.{values_in, types_of, ssrcs_of, IsBadType, HasEqual, Says, IsFault, is_bad_type, holds, has_equal, lacks_red, is_bad_interval, first_of, fault_of}
 use Rattle.vrx_core.specs.inside.Seen.{HasTypes}
 use Rattle.vrx_core.specs.declared.settings.Red.{Red}
 use Rattle.vrx_core.specs.declared.settings.Settings.{Settings}
 use Rattle.vrx_core.specs.declared.settings.NewFault.{NewFault}
-use Rattle.vrx_core.specs.declared.settings.NewFault.TheVariants.{BadType, SameType, SameSsrc, RedMissing, BadInterval, Later, NoMemory}
+use Rattle.vrx_core.specs.declared.settings.NewFault.TheVariants.{BadType, SameType, SameSsrc, RedMissing, BadInterval, NoMemory}
 
 -- a bad type, as the test says it
 bad_type-to : (type : ℕ) → is_bad_type type ≡ true → IsBadType type
@@ -125,11 +125,8 @@ never false fault other others apart behind h = behind h
 
 module _ (settings : Settings) where
   -- the faults from each test on
-  abbrev from_5 : Option NewFault
-  from_5 = first_of (is_later settings) Later None
-
   abbrev from_4 : Option NewFault
-  from_4 = first_of (is_bad_interval settings.interval) BadInterval from_5
+  from_4 = first_of (is_bad_interval settings.interval) BadInterval None
 
   abbrev from_3 : Option NewFault
   from_3 = first_of (lacks_red settings) RedMissing from_4
@@ -148,8 +145,7 @@ module _ (settings : Settings) where
       (never (has_equal (types_of settings)) SameType BadType from_2 (λ e. cc)
       (never (has_equal (ssrcs_of settings)) SameSsrc BadType from_3 (λ e. cc)
       (never (lacks_red settings) RedMissing BadType from_4 (λ e. cc)
-      (never (is_bad_interval settings.interval) BadInterval BadType from_5 (λ e. cc)
-      (never (is_later settings) Later BadType None (λ e. cc) (λ e. none-some BadType e))))))
+      (never (is_bad_interval settings.interval) BadInterval BadType None (λ e. cc) (λ e. none-some BadType e)))))
       (bad_types (types_of settings))
 
   pub fault-same_type : (fault_of settings ≡ Some SameType) ↔ IsFault settings SameType
@@ -158,8 +154,7 @@ module _ (settings : Settings) where
       (hit (has_equal (types_of settings)) SameType from_2
       (never (has_equal (ssrcs_of settings)) SameSsrc SameType from_3 (λ e. cc)
       (never (lacks_red settings) RedMissing SameType from_4 (λ e. cc)
-      (never (is_bad_interval settings.interval) BadInterval SameType from_5 (λ e. cc)
-      (never (is_later settings) Later SameType None (λ e. cc) (λ e. none-some SameType e)))))
+      (never (is_bad_interval settings.interval) BadInterval SameType None (λ e. cc) (λ e. none-some SameType e))))
       (equals (types_of settings)))
 
   nested-same_ssrc : (fault_of settings ≡ Some SameSsrc)
@@ -169,8 +164,7 @@ module _ (settings : Settings) where
       (peel (has_equal (types_of settings)) SameType SameSsrc from_2 (λ e. cc) (equals (types_of settings))
       (hit (has_equal (ssrcs_of settings)) SameSsrc from_3
       (never (lacks_red settings) RedMissing SameSsrc from_4 (λ e. cc)
-      (never (is_bad_interval settings.interval) BadInterval SameSsrc from_5 (λ e. cc)
-      (never (is_later settings) Later SameSsrc None (λ e. cc) (λ e. none-some SameSsrc e))))
+      (never (is_bad_interval settings.interval) BadInterval SameSsrc None (λ e. cc) (λ e. none-some SameSsrc e)))
       (equals (ssrcs_of settings))))
 
   pub fault-same_ssrc : (fault_of settings ≡ Some SameSsrc) ↔ IsFault settings SameSsrc
@@ -185,8 +179,7 @@ module _ (settings : Settings) where
       (peel (has_equal (types_of settings)) SameType RedMissing from_2 (λ e. cc) (equals (types_of settings))
       (peel (has_equal (ssrcs_of settings)) SameSsrc RedMissing from_3 (λ e. cc) (equals (ssrcs_of settings))
       (hit (lacks_red settings) RedMissing from_4
-      (never (is_bad_interval settings.interval) BadInterval RedMissing from_5 (λ e. cc)
-      (never (is_later settings) Later RedMissing None (λ e. cc) (λ e. none-some RedMissing e)))
+      (never (is_bad_interval settings.interval) BadInterval RedMissing None (λ e. cc) (λ e. none-some RedMissing e))
       (red_missing settings))))
 
   pub fault-red_missing : (fault_of settings ≡ Some RedMissing) ↔ IsFault settings RedMissing
@@ -205,8 +198,7 @@ module _ (settings : Settings) where
       (peel (has_equal (types_of settings)) SameType BadInterval from_2 (λ e. cc) (equals (types_of settings))
       (peel (has_equal (ssrcs_of settings)) SameSsrc BadInterval from_3 (λ e. cc) (equals (ssrcs_of settings))
       (peel (lacks_red settings) RedMissing BadInterval from_4 (λ e. cc) (red_missing settings)
-      (hit (is_bad_interval settings.interval) BadInterval from_5
-      (never (is_later settings) Later BadInterval None (λ e. cc) (λ e. none-some BadInterval e))
+      (hit (is_bad_interval settings.interval) BadInterval None (λ e. none-some BadInterval e)
       (bad_interval-to settings.interval, bad_interval-from settings.interval)))))
 
   pub fault-bad_interval : (fault_of settings ≡ Some BadInterval) ↔ IsFault settings BadInterval
@@ -214,28 +206,6 @@ module _ (settings : Settings) where
     λ h. let x = nested-bad_interval.0 h in
         (x.0, x.1.0, x.1.1.0, x.1.1.1.0, x.1.1.1.1),
     λ y. nested-bad_interval.1 (y.0, (y.1, (y.2, (y.3, y.4)))),
-  )
-
-  nested-later : (fault_of settings ≡ Some Later)
-      ↔ ((¬ Says settings BadType)
-      × ((¬ Says settings SameType)
-      × ((¬ Says settings SameSsrc)
-      × ((¬ Says settings RedMissing) × ((¬ Says settings BadInterval) × (Says settings Later))))))
-  nested-later = peel (list_any is_bad_type (types_of settings)) BadType Later from_1 (λ e. cc)
-      (bad_types (types_of settings))
-      (peel (has_equal (types_of settings)) SameType Later from_2 (λ e. cc) (equals (types_of settings))
-      (peel (has_equal (ssrcs_of settings)) SameSsrc Later from_3 (λ e. cc) (equals (ssrcs_of settings))
-      (peel (lacks_red settings) RedMissing Later from_4 (λ e. cc) (red_missing settings)
-      (peel (is_bad_interval settings.interval) BadInterval Later from_5 (λ e. cc)
-      (bad_interval-to settings.interval, bad_interval-from settings.interval)
-      (hit (is_later settings) Later None (λ e. none-some Later e) (λ h. h, λ h. h))))))
-
-  pub fault-later : (fault_of settings ≡ Some Later) ↔ IsFault settings Later
-  fault-later = (
-    λ h. let x = nested-later.0 h in
-        (x.0, x.1.0, x.1.1.0, x.1.1.1.0, x.1.1.1.1.0, x.1.1.1.1.1),
-    λ y.
-        nested-later.1 (y.0, (y.1, (y.2, (y.3, (y.4, y.5))))),
   )
 
 -- what an Err holds, else another fault
@@ -269,12 +239,11 @@ not_first false fault others other is = is
 
 never-memory : (settings : Settings) → fault_of settings ≡ Some NoMemory → ⊥
 never-memory settings is = none-some NoMemory (
-    not_first (is_later settings) Later None (λ e. cc) (
-    not_first (is_bad_interval settings.interval) BadInterval _ (λ e. cc) (
+    not_first (is_bad_interval settings.interval) BadInterval None (λ e. cc) (
     not_first (lacks_red settings) RedMissing _ (λ e. cc) (
     not_first (has_equal (ssrcs_of settings)) SameSsrc _ (λ e. cc) (
     not_first (has_equal (types_of settings)) SameType _ (λ e. cc) (
-    not_first (list_any is_bad_type (types_of settings)) BadType _ (λ e. cc) is))))))
+    not_first (list_any is_bad_type (types_of settings)) BadType _ (λ e. cc) is)))))
 
 pub never-fault : {T : Type 0} (settings : Settings) (fault : NewFault) → fault_of settings ≡ Some fault →
     IsErrOf {T = T} (Err fault) NoMemory → ⊥
@@ -318,5 +287,5 @@ types-good settings none =
     (first_of (has_equal (types_of settings)) SameType
     (first_of (has_equal (ssrcs_of settings)) SameSsrc
     (first_of (lacks_red settings) RedMissing
-    (first_of (is_bad_interval settings.interval) BadInterval (first_of (is_later settings) Later None))))) none) in
+    (first_of (is_bad_interval settings.interval) BadInterval None)))) none) in
     record { media = good-small settings.media_type each.0; red = red-small settings.red others each.1 }

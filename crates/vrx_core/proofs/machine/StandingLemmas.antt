@@ -9,9 +9,10 @@ use Rattle.vrx_frames.specs.Run.{Packets, Run, is_start, runs_by, stands, stands
 use Rattle.vrx_frames.specs.IsRun.{IsRunBy, RunsAre}
 use Rattle.vrx_core.specs.machine.Verdict.{verdict}
 use Rattle.vrx_core.specs.machine.Deliverable.{is_deliverable}
-use Rattle.vrx_core.specs.machine.Standing.{began_after_end, no_layers, standing_of}
+use Rattle.vrx_core.specs.machine.Standing.{began_after_end, standing_of}
+use Rattle.vrx_core.specs.machine.Told.{place_told}
 use Rattle.vrx_core.specs.machine.Snapshot.{moved}
-use Rattle.vrx_core.specs.machine.Machine.{Snapshot, latest, times, last_pulled, after_datagram, after_pull, next_run, snapshots}
+use Rattle.vrx_core.specs.machine.Machine.{Snapshot, latest, times, last_pulled, after_datagram, after_pull, next_run, snapshots, source_in}
 use Rattle.vrx_core.specs.declared.settings.Settings.{Settings}
 use Rattle.vrx_core.specs.declared.event.Event.{Event}
 use Rattle.vrx_core.specs.declared.event.Event.TheVariants.{Datagram, Tick, Pull}
@@ -34,7 +35,7 @@ began-again packets earlier =
 
 -- the runs that stand are the whole frames
 abbrev pub IsSettled : Meaning → List Snapshot → Type 0
-IsSettled codec past = (latest past).standing ≡ standing_of codec (times past) (latest past).front
+IsSettled codec past = (latest past).standing ≡ standing_of codec (latest past).told (times past) (latest past).front
     (last_pulled (latest past).pulled) (latest past).window.packets
 
 -- an event that moves only the clock leaves them
@@ -43,14 +44,15 @@ pub tick_settled : (codec : Meaning) (past : List Snapshot) (moment : ℕ) → I
 tick_settled codec [] moment is = refl
 tick_settled codec (s ∷ past) moment is = is
     ∙ ap (λ began. filter (stands (last_pulled s.pulled))
-    (runs_by codec no_layers (is_start s.front began) s.window.packets))
+    (runs_by codec (place_told s.told) (is_start s.front began) s.window.packets))
     (sym (began-again s.window.packets (times past)))
 
 -- a datagram
-datagram_settled : (codec : Meaning) (past : List Snapshot) (moment : ℕ) (v : Result (ℕ × Content) NotTaken) →
-    IsSettled codec past → IsSettled codec (after_datagram codec past moment v ∷ past)
-datagram_settled codec past moment (Err left) is = tick_settled codec past moment is
-datagram_settled codec past moment (Ok (n, content)) is = refl
+datagram_settled : (settings : Settings) (codec : Meaning) (past : List Snapshot) (moment : ℕ)
+    (v : Result (ℕ × Content) NotTaken) → IsSettled codec past →
+    IsSettled codec (after_datagram (source_in settings codec) past moment v ∷ past)
+datagram_settled settings codec past moment (Err left) is = tick_settled codec past moment is
+datagram_settled settings codec past moment (Ok (n, content)) is = refl
 
 -- a pull
 pull_settled : (codec : Meaning) (past : List Snapshot) (moment : ℕ) (o : Option Run) → IsSettled codec past →
@@ -65,7 +67,7 @@ unfolding snapshots
 standing_is settings codec [] = refl
 standing_is settings codec (Datagram moment octets ∷ h) =
     let past : List Snapshot = snapshots settings codec h in
-    datagram_settled codec past moment (verdict settings codec (latest past).window octets)
+    datagram_settled settings codec past moment (verdict settings codec (latest past).window octets)
     (standing_is settings codec h)
 standing_is settings codec (Tick moment ∷ h) =
     tick_settled codec (snapshots settings codec h) moment (standing_is settings codec h)
@@ -76,7 +78,7 @@ standing_is settings codec (Pull moment ∷ h) =
 -- what a run is that may stand
 abbrev pub IsRunNow : Meaning → List Snapshot → Run → Type 0
 IsRunNow codec past run =
-    IsRunBy codec no_layers (is_start (latest past).front (began_after_end (times past)))
+    IsRunBy codec (place_told (latest past).told) (is_start (latest past).front (began_after_end (times past)))
     (latest past).window.packets run
 
 module _ (are : RunsAre) (codec : Meaning) (past : List Snapshot) (settled : IsSettled codec past) (run : Run) where
@@ -86,11 +88,11 @@ module _ (are : RunsAre) (codec : Meaning) (past : List Snapshot) (settled : IsS
   standing-from there =
       let s : Snapshot = latest past in
       let starts = is_start s.front (began_after_end (times past)) in
-      let both : Contains (runs_by codec no_layers starts s.window.packets) run
+      let both : Contains (runs_by codec (place_told s.told) starts s.window.packets) run
       × (stands (last_pulled s.pulled) run ≡ true) =
-      filter-from (stands (last_pulled s.pulled)) (runs_by codec no_layers starts s.window.packets) run
+      filter-from (stands (last_pulled s.pulled)) (runs_by codec (place_told s.told) starts s.window.packets) run
       (subst (λ rs. Contains rs run) settled there) in
-      ((are codec no_layers starts s.window.packets run).0 both.0, both.1)
+      ((are codec (place_told s.told) starts s.window.packets run).0 both.0, both.1)
 
   -- and back
   pub standing-to : IsRunNow codec past run → stands (last_pulled (latest past).pulled) run ≡ true →
@@ -99,8 +101,8 @@ module _ (are : RunsAre) (codec : Meaning) (past : List Snapshot) (settled : IsS
       let s : Snapshot = latest past in
       let starts = is_start s.front (began_after_end (times past)) in
       subst (λ rs. Contains rs run) (sym settled)
-      (filter-to (stands (last_pulled s.pulled)) (runs_by codec no_layers starts s.window.packets) run
-      ((are codec no_layers starts s.window.packets run).1 is) beyond)
+      (filter-to (stands (last_pulled s.pulled)) (runs_by codec (place_told s.told) starts s.window.packets) run
+      ((are codec (place_told s.told) starts s.window.packets run).1 is) beyond)
 
 -- a number beyond the last one pulled, as the test says it
 pub stands_from : (o : Option ℕ) (run : Run) → IfSome o (λ last. last < run.first) → stands o run ≡ true
@@ -113,8 +115,8 @@ pub given-rises : RunsAre → (codec : Meaning) (past : List Snapshot) (run : Ru
     (run.first ≤ run.last) × IfSome (last_pulled (latest past).pulled) (λ last. last < run.first)
 given-rises are codec past run settled is =
     let s : Snapshot = latest past in
-    let given : Contains s.standing run × (is_deliverable (last_pulled s.pulled) s.front run ≡ true) =
-    answer-given (last_pulled s.pulled) s.front s.standing run is in
+    let given : Contains s.standing run × (is_deliverable s.told s.pulled s.front run ≡ true) =
+    answer-given s.told s.pulled s.front s.standing run is in
     let stood : IsRunNow codec past run × (stands (last_pulled s.pulled) run ≡ true) =
     standing-from are codec past settled run given.0 in
     (stood.0.not_empty, stands-beyond (last_pulled s.pulled) run stood.1)

@@ -1,15 +1,18 @@
 -- Runs that complete are added to those that stand, one after the other.
-use Rattle.std.proofs.Common.{◌≡◌, ◌≢◌, ℕ, ◌<◌, ◌⊎◌, true, false, List, [], ◌∷◌, map, Contains, Option, IfSome, refl, sym, ◌∙◌, ap, subst, arith, inl, inr}
-use Rattle.std.specs.Prelude.{◌==◌}
-use Rattle.std.specs.List.{AllByRecursion}
-use Rattle.std.proofs.lemmas.Bool.{ne_eqb, or_from}
+use Rattle.std.proofs.Common.{◌≡◌, ◌≢◌, ℕ, zero, suc, ◌+◌, ◌<◌, ◌≤◌, ◌⊎◌, true, false, cond, List, [], ◌∷◌, map, length, Contains, refl, sym, ◌∙◌, ap, subst, arith, inl, inr}
+use Rattle.std.specs.Prelude.{◌==◌, nat_lt, not}
+use Rattle.std.specs.List.{AllByRecursion, filter}
+use Rattle.std.proofs.lemmas.Bool.{ne_eqb}
 use Rattle.vrx_codec.specs.declared.run.Run.{Run as RunSummary}
-use Rattle.vrx_window.specs.Window.{is_inside}
+use Rattle.vrx_num.specs.declared.limits.TheConstants.{WINDOW}
+use Rattle.vrx_refs.specs.References.{has_layer}
 use Rattle.vrx_frames.specs.Completed.{Completes}
 use Rattle.vrx_frames.specs.Run.{Run, summary_of}
-use Rattle.vrx_core.specs.relation.Frames.{is_passed, stands, with_run}
+use Rattle.vrx_buffer.specs.Frames.{with_run}
+use Rattle.vrx_buffer.specs.Order.{put_by}
+use Rattle.vrx_core.specs.inside.Fields.{CanAddAll}
 use Rattle.vrx_core.specs.inside.Step.{with_runs}
-use Rattle.vrx_core.proofs.relation.ListLemmas.{Contains-either, Contains-empty, Contains-head, Contains-tail, Rises, all-in, all-of, map-from, map-to, one-with, put-from, put-here, put-stays, rises-map, rises-put, same-lists}
+use Rattle.vrx_core.proofs.relation.ListLemmas.{Contains-either, Contains-empty, Contains-head, Contains-tail, Rises, all-in, all-of, filter-from, filter-whole, map-from, map-to, one-with, put-from, put-here, put-stays, rises-map, rises-put, same-lists}
 
 -- the first number of a run, as it is told and as it is
 abbrev pub first_told : RunSummary → ℕ
@@ -23,14 +26,28 @@ abbrev pub Apart : (answers frames : List RunSummary) → Type 0
 Apart answers frames =
     (a : RunSummary) → Contains answers a → (f : RunSummary) → Contains frames f → f.first ≢ a.first
 
+-- no run begins at the first number of the first answer
+fresh-all : (a : RunSummary) (more frames : List RunSummary) → Apart (a ∷ more) frames →
+    AllByRecursion (λ f. first_told f ≢ first_told a) frames
+fresh-all a more frames apart =
+    all-of (λ f. first_told f ≢ first_told a) frames (λ f d. apart a (Contains-head a more) f d)
+
+-- so it is put in its place, and in place of nothing
+put-fresh : (a : RunSummary) (more frames : List RunSummary) → Apart (a ∷ more) frames →
+    with_run a frames ≡ put_by first_told a frames
+put-fresh a more frames apart = ap (put_by first_told a) (filter-whole (λ r. not (r.first == a.first)) frames
+    (all-of (λ r. not (r.first == a.first) ≡ true) frames
+    (λ f d. ap not (ne_eqb f.first a.first (apart a (Contains-head a more) f d)))))
+
 -- once the first answer is added, the others still begin elsewhere
 apart-rest : (a : RunSummary) (more frames : List RunSummary) → Rises first_told (a ∷ more) →
     Apart (a ∷ more) frames → Apart more (with_run a frames)
-apart-rest a more frames rises apart b c f d = elim (put-from first_told a frames f d) [
-  | inl same ↦ λ e. let above : a.first < b.first = all-in (λ x. first_told a < first_told x) more b rises.0 c in
-      let e' : a.first ≡ f.first = ap first_told same in absurd (omega arith)
-  | inr old ↦ apart b (Contains-tail a more b c) f old
-]
+apart-rest a more frames rises apart b c f d =
+    elim (put-from first_told a frames f (subst (λ fs. Contains fs f) (put-fresh a more frames apart) d)) [
+      | inl same ↦ λ e. let above : a.first < b.first = all-in (λ x. first_told a < first_told x) more b rises.0 c in
+          let e' : a.first ≡ f.first = ap first_told same in absurd (omega arith)
+      | inr old ↦ apart b (Contains-tail a more b c) f old
+    ]
 
 -- what is in a list with answers added is an answer, or was there
 pub with-from : (answers frames : List RunSummary) (run : RunSummary) → Contains (with_runs answers frames) run →
@@ -38,40 +55,39 @@ pub with-from : (answers frames : List RunSummary) (run : RunSummary) → Contai
 with-from [] frames run c = inr c
 with-from (a ∷ more) frames run c = elim (with-from more (with_run a frames) run c) [
   | inl later ↦ inl (Contains-tail a more run later)
-  | inr put ↦ elim (put-from first_told a frames run put) [
+  | inr put ↦ elim (put-from first_told a (filter (λ r. not (r.first == a.first)) frames) run put) [
     | inl same ↦ inl (subst (λ x. Contains (a ∷ more) x) same (Contains-head a more))
-    | inr old ↦ inr old
+    | inr old ↦ inr (filter-from (λ r. not (r.first == a.first)) frames run old).0
   ]
 ]
 
 -- what was there is there still
-pub with-stays : (answers frames : List RunSummary) (run : RunSummary) → Contains frames run →
-    Contains (with_runs answers frames) run
-with-stays [] frames run c = c
-with-stays (a ∷ more) frames run c = with-stays more (with_run a frames) run (put-stays first_told a frames run c)
+pub with-stays : (answers frames : List RunSummary) → Rises first_told answers → Apart answers frames →
+    (run : RunSummary) → Contains frames run → Contains (with_runs answers frames) run
+with-stays [] frames ups apart run c = c
+with-stays (a ∷ more) frames ups apart run c =
+    with-stays more (with_run a frames) ups.1 (apart-rest a more frames ups apart) run
+    (subst (λ fs. Contains fs run) (sym (put-fresh a more frames apart)) (put-stays first_told a frames run c))
 
 -- and each answer is
-pub with-answers : (answers frames : List RunSummary) (run : RunSummary) → Contains answers run →
-    Contains (with_runs answers frames) run
-with-answers [] frames run c = absurd (Contains-empty run c)
-with-answers (a ∷ more) frames run c = elim (Contains-either a more run c) [
-  | inl same ↦ with-stays more (with_run a frames) run
-      (subst (λ x. Contains (with_run a frames) x) same (put-here first_told a frames))
-  | inr later ↦ with-answers more (with_run a frames) run later
+pub with-answers : (answers frames : List RunSummary) → Rises first_told answers → Apart answers frames →
+    (run : RunSummary) → Contains answers run → Contains (with_runs answers frames) run
+with-answers [] frames ups apart run c = absurd (Contains-empty run c)
+with-answers (a ∷ more) frames ups apart run c = elim (Contains-either a more run c) [
+  | inl same ↦ with-stays more (with_run a frames) ups.1 (apart-rest a more frames ups apart) run
+      (subst (λ x. Contains (with_run a frames) x) same
+      (put-here first_told a (filter (λ r. not (r.first == a.first)) frames)))
+  | inr later ↦ with-answers more (with_run a frames) ups.1 (apart-rest a more frames ups apart) run later
 ]
-
--- no run begins at the first number of the first answer
-fresh-all : (a : RunSummary) (more frames : List RunSummary) → Apart (a ∷ more) frames →
-    AllByRecursion (λ f. first_told f ≢ first_told a) frames
-fresh-all a more frames apart =
-    all-of (λ f. first_told f ≢ first_told a) frames (λ f d. apart a (Contains-head a more) f d)
 
 -- the list still rises
 pub with-rises : (answers frames : List RunSummary) → Rises first_told frames → Rises first_told answers →
     Apart answers frames → Rises first_told (with_runs answers frames)
 with-rises [] frames rises ups apart = rises
 with-rises (a ∷ more) frames rises ups apart =
-    with-rises more (with_run a frames) (rises-put first_told a frames rises (fresh-all a more frames apart)) ups.1
+    with-rises more (with_run a frames)
+    (subst (Rises first_told) (sym (put-fresh a more frames apart))
+    (rises-put first_told a frames rises (fresh-all a more frames apart))) ups.1
     (apart-rest a more frames ups apart)
 
 -- What completes is added: the runs that stood before, and the answers, are the runs that stand after.
@@ -110,47 +126,59 @@ module _ (before after : List Run) (answers : List RunSummary) where
             Contains (with_runs answers (map summary_of before)) x
         back x c = let r : (run : Run) × Contains after run × (summary_of run ≡ x) = map-from summary_of after x c in
             subst (λ y. Contains (with_runs answers (map summary_of before)) y) r.2 (elim (completes.either r.0 r.1) [
-              | inl old ↦ with-stays answers (map summary_of before) (summary_of r.0)
+              | inl old ↦ with-stays answers (map summary_of before) ups (answers-apart rises' completes) (summary_of r.0)
                   (map-to summary_of before r.0 old)
-              | inr new ↦ with-answers answers (map summary_of before) (summary_of r.0) new
+              | inr new ↦ with-answers answers (map summary_of before) ups (answers-apart rises' completes) (summary_of r.0) new
             ])
 
--- what standing runs ask for when one more is added: it begins in the window, beyond the front and the last number
--- pulled, and none that stands begins at its first number
-pub record CanBeAdded (newest front last_pulled : Option ℕ) (frames : List RunSummary)
-    (run : RunSummary) : Type 0 where
-  pub inside : is_inside newest run.first ≡ true
-  pub beyond : is_passed front run.first ≡ false
-  pub later : IfSome last_pulled (λ last. last < run.first)
-  pub fresh : stands run.first frames ≡ false
+-- runs that begin in the window, each at another number, are at most as many as it has numbers
+few-inside : (low : ℕ) (most : ℕ) (runs : List RunSummary) → Rises first_told runs →
+    AllByRecursion (λ r. (low ≤ r.first) × (r.first < low + most)) runs → length runs ≤ most
+few-inside low most [] rises all = omega arith
+few-inside low zero (r ∷ rs) rises all =
+    let from : low ≤ r.first = all.0.0 in let below : r.first < low + 0 = all.0.1 in absurd (omega arith)
+few-inside low (suc most) (r ∷ rs) rises all =
+    let from : low ≤ r.first = all.0.0 in
+    let rest : length rs ≤ most = few-inside (low + 1) most rs rises.1
+    (all-of (λ x. (low + 1 ≤ x.first) × (x.first < low + 1 + most)) rs
+    (λ x c. let above : r.first < x.first = all-in (λ y. first_told r < first_told y) rs x rises.0 c in
+    let below : x.first < low + suc most = (all-in (λ y. (low ≤ y.first) × (y.first < low + suc most)) rs x all.1 c).1 in
+    (omega arith, omega arith))) in
+    omega arith
 
--- the runs can be added, one after the other
-abbrev pub CanAdd : (newest front last_pulled : Option ℕ) → (answers frames : List RunSummary) → Type 0
-CanAdd newest front last_pulled [] frames = Unit {0}
-CanAdd newest front last_pulled (run ∷ more) frames =
-    CanBeAdded newest front last_pulled frames run × CanAdd newest front last_pulled more (with_run run frames)
+-- what a run that is added has: it begins in the window from this number on, and its TID, if it has layers, is one of
+-- the four
+pub record MayStand (low : ℕ) (run : RunSummary) : Type 0 where
+  pub from : low ≤ run.first
+  pub below : run.first < low + WINDOW
+  pub layer : has_layer run.layers ≡ true
 
--- no run stands at a number at which none begins
-none-stands : (n : ℕ) (frames : List RunSummary) → AllByRecursion (λ f. first_told f ≢ n) frames →
-    stands n frames ≡ false
-none-stands n [] all = refl
-none-stands n (f ∷ fs) all = or_from (f.first == n) (stands n fs) (ne_eqb f.first n all.0) (none-stands n fs all.1)
+-- one more is one more
+put-more : (a : RunSummary) (xs : List RunSummary) → length (put_by first_told a xs) ≡ suc (length xs)
+put-more a [] = refl
+put-more a (x ∷ xs) =
+    elim (nat_lt a.first x.first) as (λ b. length (cond b (a ∷ x ∷ xs) (x ∷ put_by first_told a xs))
+    ≡ suc (suc (length xs))) [ true ↦ refl | false ↦ ap suc (put-more a xs) ]
 
 -- answers that rise, and begin at no number at which a run stands, can be added one after the other
-pub can-add : (newest front last_pulled : Option ℕ) (answers frames : List RunSummary) → Rises first_told answers →
-    Apart answers frames
-    → ((a : RunSummary) → Contains answers a →
-    (is_inside newest a.first ≡ true) × (is_passed front a.first ≡ false)
-    × IfSome last_pulled (λ last. last < a.first)) → CanAdd newest front last_pulled answers frames
-can-add newest front last_pulled [] frames ups apart each = tt
-can-add newest front last_pulled (a ∷ more) frames ups apart each =
-    let here = each a (Contains-head a more) in (
-      record {
-        inside = here.0;
-        beyond = here.1;
-        later = here.2;
-        fresh = none-stands a.first frames (fresh-all a more frames apart);
-      },
-      can-add newest front last_pulled more (with_run a frames) ups.1 (apart-rest a more frames ups apart)
+pub can-add : (low : ℕ) (answers frames : List RunSummary) → Rises first_told frames → Rises first_told answers →
+    Apart answers frames → AllByRecursion (λ r. (low ≤ r.first) × (r.first < low + WINDOW)) frames
+    → ((a : RunSummary) → Contains answers a → MayStand low a) → CanAddAll answers frames
+can-add low [] frames rises ups apart all each = tt
+can-add low (a ∷ more) frames rises ups apart all each =
+    let may : MayStand low a = each a (Contains-head a more) in
+    let fresh : with_run a frames ≡ put_by first_told a frames = put-fresh a more frames apart in
+    let rises' : Rises first_told (with_run a frames) = subst (Rises first_told) (sym fresh)
+    (rises-put first_told a frames rises (fresh-all a more frames apart)) in
+    let all' : AllByRecursion (λ r. (low ≤ r.first) × (r.first < low + WINDOW)) (with_run a frames) =
+    all-of (λ r. (low ≤ r.first) × (r.first < low + WINDOW)) (with_run a frames)
+    (λ r c. elim (put-from first_told a frames r (subst (λ fs. Contains fs r) fresh c)) [
+      | inl same ↦ subst (λ x. (low ≤ x.first) × (x.first < low + WINDOW)) same (may.from, may.below)
+      | inr old ↦ all-in (λ x. (low ≤ x.first) × (x.first < low + WINDOW)) frames r all old
+    ]) in
+    let few : length (with_run a frames) ≤ WINDOW = few-inside low WINDOW (with_run a frames) rises' all' in
+    let count : length (with_run a frames) ≡ suc (length frames) = ap length fresh ∙ put-more a frames in (
+      (omega arith, may.layer),
+      can-add low more (with_run a frames) rises' ups.1 (apart-rest a more frames ups apart) all'
           (λ b c. each b (Contains-tail a more b c)),
     )

@@ -1,140 +1,139 @@
 -- What the calls of the parts ask for, in an engine whose parts are as they always are.
-use Rattle.std.proofs.Common.{◌≡◌, ℕ, ◌<◌, true, false, List, map, All, Contains, Option, Some, None, is_some, IfSome, refl, sym, ◌∙◌, ap, subst, arith}
-use Rattle.std.specs.Prelude.{nat_le}
+use Rattle.std.proofs.Common.{◌≡◌, ℕ, ◌+◌, ◌<◌, ◌≤◌, ◌||◌, ◌++◌, Bool, true, false, List, [], ◌∷◌, map, Contains, Option, Some, None, is_some, IfSome, refl, sym, ◌∙◌, ap, subst, arith, inl, inr}
+use Rattle.std.specs.List.{list_any}
 use Rattle.std.specs.List.Sorted.{IsStrictlySortedBy}
 use Rattle.std.specs.Option.{option_map}
 use Rattle.std.specs.Ordering.{nat_cmp}
-use Rattle.std.specs.FinMap.Entries.{is_sorted, where_key}
-use Rattle.std.proofs.lemmas.Bool.{not-true}
-use Rattle.std.proofs.lemmas.List.Elements.{All-from_recursion}
+use Rattle.std.specs.FinMap.Entries.{is_sorted}
+use Rattle.std.proofs.lemmas.Bool.{false≢true, lt-ltb}
+use Rattle.std.proofs.lemmas.List.Elements.{Contains-append_cases, Contains-append_left, Contains-append_right}
+use Rattle.vrx_num.specs.declared.limits.TheConstants.{WINDOW}
+use Rattle.vrx_codec.specs.Joining.{FitsLayers}
 use Rattle.vrx_codec.specs.Meaning.{Meaning}
+use Rattle.vrx_codec.specs.declared.part.Layers.{Layers}
 use Rattle.vrx_codec.specs.declared.run.Place.{Place}
 use Rattle.vrx_codec.specs.declared.run.Run.{Run as RunSummary}
-use Rattle.vrx_window.specs.Content.{contents}
-use Rattle.vrx_window.specs.Sound.{AreSound, IsSound, place_at, place_of}
-use Rattle.vrx_window.specs.Window.{Contents, at, in_window, is_available, is_inside, newest_with, after_placing, would_of}
+use Rattle.vrx_window.specs.Content.{Content, contents}
+use Rattle.vrx_window.specs.Sound.{AreSound, on_wire, place_at, place_of}
+use Rattle.vrx_window.specs.Window.{Contents, at, is_available, is_inside}
 use Rattle.vrx_window.specs.declared.held.Held.{Held}
-use Rattle.vrx_window.specs.declared.placing.Placing.TheVariants.{Fresh}
-use Rattle.vrx_frames.specs.Completed.{AreStill, Completes, IsUpTo, Known, is_among, known_packets as known_packets, known_with, standing_runs}
+use Rattle.vrx_window.specs.declared.held.Held.TheVariants as helds
+use Rattle.vrx_frames.specs.Completed.{Completes, IsUpTo, Known, is_among, known_with, packets_under, standing_runs}
 use Rattle.vrx_frames.specs.IsRun.{IsRunBy, RunsAre, RunsRise}
-use Rattle.vrx_frames.specs.Run.{Packets, Run, is_start, runs_by, stands as stands_run, summary_of}
+use Rattle.vrx_frames.specs.Run.{Packets, Run, is_start, stands as stands_run, summary_of}
 use Rattle.vrx_frames.specs.Shape.{shape_of}
-use Rattle.vrx_frames.specs.declared.shape.Shape.{Shape}
-use Rattle.vrx_core.specs.machine.Standing.{no_layers}
-use Rattle.vrx_core.specs.relation.Frames.{is_deliverable, is_passed, next_of, runs_from}
-use Rattle.vrx_core.specs.relation.StandsFor.{Assembly}
-use Rattle.vrx_core.specs.inside.Step.{AreTaken, IsKept, lowest_of, packets_of}
-use Rattle.vrx_core.proofs.relation.ListLemmas.{all-of, filter-from, find-among, map-from, rises-from}
-use Rattle.vrx_core.proofs.relation.MapLemmas.{at_map, at_put-here}
-use Rattle.vrx_core.proofs.relation.RunMoveLemmas.{run-available, standing-by, standing-from, stands-beyond}
-use Rattle.vrx_core.proofs.relation.WindowLemmas.{available-contents, fresh-inside, fresh-parts, after_placing-stays, sorted-after_placing, told-available}
-use Rattle.vrx_core.proofs.relation.AddLemmas.{answers-apart, can-add, first_told}
-use Rattle.vrx_core.proofs.relation.FrontKeptLemmas.{now-inside}
-use Rattle.vrx_core.proofs.relation.TakenLemmas.{frames-left, known-rises, standing_runs-whole, then, told-then}
-pub use Rattle.vrx_core.proofs.relation.AddLemmas.{CanAdd, CanBeAdded}
-pub use Rattle.vrx_core.proofs.relation.PlacedLemmas.{taken-after_placing}
+use Rattle.vrx_repair.specs.Step.{with_repair, with_repairs}
+use Rattle.vrx_refs.specs.References.{has_layer}
+use Rattle.vrx_refs.specs.declared.limits.TheConstants.{LAYERS}
+use Rattle.vrx_core.specs.relation.StandsFor.{Assembly, shapes_of}
+use Rattle.vrx_core.specs.inside.Fields.{CanAddAll, CanComplete, CanCompleteAll}
+use Rattle.vrx_core.specs.inside.Step.{CompletesWith, IsKept, frames_in, lowest_of, packets_of, with_runs}
+use Rattle.vrx_core.proofs.relation.ListLemmas.{Contains-empty, all-of, map-from, rises-from, rises-map}
+use Rattle.vrx_core.proofs.relation.MapLemmas.{at_map, at_put-here, at_where-from, some-of, sorted_put}
+use Rattle.vrx_core.proofs.relation.RunMoveLemmas.{run-available, standing-by, standing-from}
+use Rattle.vrx_core.proofs.relation.WindowLemmas.{available-contents, sorted-contents, told-available, window-order}
+use Rattle.vrx_core.proofs.relation.AddLemmas.{MayStand, answers-apart, can-add, completed-list, first_of, first_told}
+use Rattle.vrx_core.proofs.relation.TakenLemmas.{known-rises, standing_runs-whole}
+use Rattle.vrx_core.proofs.relation.GrowLemmas.{AreGaps, AreWithin, KnowsAll, known-among, next-knows, numbers_made, rises-all, stays-all, within-more}
 
--- what the runs ask for when n was placed in this window: as `Runs::completed` says it
-pub record CanComplete (codec : Meaning) (before : Assembly) (window : Contents Held) (n : ℕ) : Type 0 where
-  pub sound : AreSound codec window.packets
-  pub held : is_available n window.packets ≡ true
-  pub fresh : is_available n before.known.arrivals ≡ false
-  pub newest : IsUpTo before.known.newest window.newest
-  pub passed : IsUpTo before.known.passed before.front
-  pub same : AreStill codec window.newest (contents window.packets) before.known.arrivals
+-- a number of a window can be told, if all that was told is as it was and it wasn't told
+pub can-one : (codec : Meaning) (window : Contents Held) (passed : Option ℕ) (packets : Packets) (known : Known) (n : ℕ)
+    → known.arrivals ≡ shapes_of codec packets → IsUpTo known.newest window.newest → IsUpTo known.passed passed
+    → AreSound codec window.packets → is_available n window.packets ≡ true → is_available n packets ≡ false
+    → ((m : ℕ) → is_available m packets ≡ true → is_inside window.newest m ≡ true →
+    at m (contents window.packets) ≡ at m packets)
+    → CanComplete codec window passed known n
+can-one codec window passed packets known n told newest upto sound here missing same = record {
+  sound = sound;
+  held = here;
+  fresh = told-available codec known.arrivals packets n told ∙ missing;
+  newest = newest;
+  passed = upto;
+  same = λ m shape is inside.
+      ap (option_map (shape_of codec)) (same m (sym (told-available codec known.arrivals packets m told)
+      ∙ ap is_some is) inside)
+      ∙ sym (ap (at m) told ∙ at_map (shape_of codec) m packets) ∙ is;
+}
 
--- after a packet was placed under a fresh number it is so
-pub can-complete : (codec : Meaning) (before : Assembly) (window : Contents Held) (n : ℕ) (held : Held)
-    → IsKept codec before → ((m : ℕ) → is_available m before.window.packets ≡ true →
-    is_inside before.window.newest m ≡ true)
-    → would_of before.window n ≡ Fresh → IsSound codec held → place_of (Some held) ≡ None →
-    window ≡ after_placing n held before.window → CanComplete codec before window n
-can-complete codec before window n held kept inside fresh sound plain placed_is =
-    subst (λ (w : Contents Held). CanComplete codec before w n) (sym placed_is) (record {
-      sound = λ m other is. (taken-after_placing codec before.window n held kept.taken sound plain m other is).0;
-      held = ap is_some (at_put-here n held
-          (where_key nat_cmp (in_window (newest_with before.window.newest n)) before.window.packets));
-      fresh = told-available codec before.known.arrivals (packets_of before) n kept.arrivals
-          ∙ available-contents n before.window.packets ∙ missing;
-      newest = subst (λ (o : Option ℕ). IsUpTo o (Some (newest_with before.window.newest n))) (sym kept.newest)
-          (upto before.window.newest);
-      passed = kept.passed;
-      same = λ m shape is in_new.
-          ap (option_map (shape_of codec))
-          (after_placing-stays before.window n held m missing (there m shape is) in_new)
-          ∙ sym (was m) ∙ is;
-    }) where
-      missing : is_available n before.window.packets ≡ false
-      missing = (fresh-parts before.window n fresh).1
+-- all repairs can be told, one after the other
+pub can-repairs : (codec : Meaning) (top : ℕ) (passed : Option ℕ) (window : Contents Held) → window.newest ≡ Some top →
+    AreSound codec window.packets → (packets : Packets) (made : List (ℕ × Content)) (known : Known)
+    → contents window.packets ≡ with_repairs made packets → is_sorted nat_cmp packets ≡ true
+    → AreWithin top packets → AreGaps top packets made → KnowsAll codec (Some top) passed packets [] known
+    → CanCompleteAll codec window passed (numbers_made made) known
+can-repairs codec top passed window newest_is sound packets [] known final_is sorted within gaps knows = tt
+can-repairs codec top passed window newest_is sound packets (repair ∷ more) known final_is sorted within gaps knows = (
+  can-one codec window passed packets known repair.0 knows.arrivals
+      (subst (λ (o : Option ℕ). IsUpTo known.newest o) (sym newest_is)
+      (subst (λ (o : Option ℕ). IsUpTo o (Some top)) (sym knows.newest_is) (omega arith)))
+      (subst (λ (o : Option ℕ). IsUpTo o passed) (sym knows.passed_is) (itself passed)) sound here gaps.0
+      (λ m there inside. ap (at m) final_is ∙ stays-all top packets (repair ∷ more) gaps m there),
+  subst (λ (x : Known). CanCompleteAll codec window passed (numbers_made more) x) (sym next_is)
+      (can-repairs codec top passed window newest_is sound packets' more next final_is
+      (sorted_put repair.0 repair.1 packets sorted) (within-more top packets repair within gaps.1) gaps.2 knows'),
+)
+  where
+    packets' : Packets
+    packets' = with_repair repair packets
 
-      upto : (o : Option ℕ) → IsUpTo o (Some (newest_with o n))
-      upto None = tt
-      upto (Some m) = omega arith
+    next : Known
+    next = known_with codec (Some top) repair.0 passed packets' known
 
-      was : (m : ℕ) → at m before.known.arrivals ≡ option_map (shape_of codec) (at m (packets_of before))
-      was m = ap (at m) kept.arrivals ∙ at_map (shape_of codec) m (packets_of before)
+    knows' : KnowsAll codec (Some top) passed packets' [] next
+    knows' = next-knows codec top passed [] packets repair within gaps.0 known knows.arrivals
 
-      there : (m : ℕ) (shape : Shape) → at m before.known.arrivals ≡ Some shape →
-          is_available m (packets_of before) ≡ true
-      there m shape is =
-          sym (told-available codec before.known.arrivals (packets_of before) m kept.arrivals) ∙ ap is_some is
+    here' : is_available repair.0 packets' ≡ true
+    here' = ap is_some (at_put-here repair.0 repair.1 packets)
 
--- a packet without layers has no place
-plain-place : (codec : Meaning) (packets : List (ℕ × Held)) → AreTaken codec packets → (n : ℕ) →
-    place_at packets n ≡ None
-plain-place codec packets taken n = either (at n packets) refl where
-  either : (o : Option Held) → at n packets ≡ o → place_of o ≡ None
-  either None is = refl
-  either (Some held) is = (taken n held is).1
+    here : is_available repair.0 window.packets ≡ true
+    here = sym (available-contents repair.0 window.packets) ∙ ap (is_available repair.0) final_is
+        ∙ ap is_some (stays-all top packets' more gaps.2 repair.0 here') ∙ here'
 
--- packets without layers have no places: what completes by their places completes without
-pub completes-plain : (codec : Meaning) (held : List (ℕ × Held)) (passed : Option ℕ) (known known' : Known)
-    (packets : Packets) (answers : List RunSummary) → AreTaken codec held
-    → Completes (standing_runs codec (place_at held) passed known packets)
-    (standing_runs codec (place_at held) passed known' packets) answers
-    → Completes (standing_runs codec no_layers passed known packets)
-    (standing_runs codec no_layers passed known' packets) answers
-completes-plain codec held passed known known' packets answers taken completes =
-    subst (λ (place : ℕ → Option Place).
-    Completes (standing_runs codec place passed known packets)
-    (standing_runs codec place passed known' packets) answers) (λ i n. plain-place codec held taken n i) completes
+    next_is : known_with codec window.newest repair.0 passed (contents window.packets) known ≡ next
+    next_is = ap (λ o. known_with codec o repair.0 passed (contents window.packets) known) newest_is
+        ∙ ap (λ ps. known_with codec (Some top) repair.0 passed ps known) final_is
+        ∙ known-among codec top passed [] (Some top) repair.0 packets' (with_repairs more packets') known
+        (sorted_put repair.0 repair.1 packets sorted)
+        (rises-all packets' more (sorted_put repair.0 repair.1 packets sorted)) here' knows'.arrivals
+        (stays-all top packets' more gaps.2)
 
--- no run that stands begins at a passed number
-pub next-beyond : (codec : Meaning) (parts : Assembly) → IsKept codec parts →
-    All (λ run. is_passed parts.front run.first ≡ false) parts.frames
-next-beyond codec parts kept =
-    All-from_recursion (λ run. is_passed parts.front run.first ≡ false) parts.frames
-    (all-of (λ run. is_passed parts.front run.first ≡ false) parts.frames beyond) where
-      not_passed : (o : Option ℕ) (run : Run) → stands_run o run ≡ true → is_passed o run.first ≡ false
-      not_passed None run s = refl
-      not_passed (Some front) run s = not-true (nat_le run.first front) s
-
-      beyond : (told : RunSummary) → Contains parts.frames told → is_passed parts.front told.first ≡ false
-      beyond told there =
-          let r : (run : Run) × Contains
-          (standing_runs codec no_layers parts.front parts.known (packets_of parts)) run
-          × (summary_of run ≡ told) =
-          map-from summary_of (standing_runs codec no_layers parts.front parts.known (packets_of parts)) told
-          (subst (λ frames. Contains frames told) kept.frames there) in
-          let s = filter-from (stands_run parts.front)
-          (runs_by codec no_layers (is_start parts.front (is_among parts.known.began))
-          (known_packets parts.known (packets_of parts))) r.0 r.1 in
-          ap (λ (t : RunSummary). is_passed parts.front t.first) (sym r.2) ∙ not_passed parts.front r.0 s.1
-
--- the run that is next stands
-pub next-among : (front : Option ℕ) (frames : List RunSummary) (run : RunSummary) → next_of front frames ≡ Some run →
-    Contains frames run
-next-among front frames run is = (find-among (is_deliverable front) frames run is).0
+    itself : (o : Option ℕ) → IsUpTo o o
+    itself None = tt
+    itself (Some m) = omega arith
 
 -- what a run that stands tells of: a stretch of the window's packets, all media, that joins to so many octets
 pub record IsTold (codec : Meaning) (parts : Assembly) (told : RunSummary) : Type 0 where
   pub run : Run
   pub told_is : summary_of run ≡ told
-  pub is_run : IsRunBy codec no_layers (is_start parts.front (is_among parts.known.began)) (packets_of parts) run
+  pub is_run : IsRunBy codec (place_at parts.window.packets) (is_start parts.front (is_among parts.known.began)) (packets_of parts) run
 
--- the contents once a packet was placed
-abbrev placed_now : Contents Held → ℕ → Held → Packets
-placed_now window n held = contents (after_placing n held window).packets
+-- a run inside the window begins at its lowest number or beyond it
+inside-low : (newest : Option ℕ) (n : ℕ) → is_inside newest n ≡ true →
+    (lowest_of newest ≤ n) × (n < lowest_of newest + WINDOW)
+inside-low None n within = absurd (false≢true within)
+inside-low (Some newest) n within =
+    let order = window-order newest n within in
+    let low : newest < n + WINDOW = order.0 in
+    let high : n ≤ newest = order.1 in (omega arith, omega arith)
+
+-- the place of a sound packet has a TID of two bits
+place-fits : (codec : Meaning) (packets : List (ℕ × Held)) → AreSound codec packets → (n : ℕ) →
+    has_layer (place_at packets n) ≡ true
+place-fits codec packets sound n = by (at n packets) refl where
+  fits : (layers : Option Place) (said : Option Layers) → said ≡ option_map on_wire layers → IfSome said FitsLayers →
+      has_layer layers ≡ true
+  fits None said is fit = refl
+  fits (Some place) said is fit =
+      let low : place.tid < 4 = (subst (λ (o : Option Layers). IfSome o FitsLayers) is fit).1 in
+      lt-ltb place.tid LAYERS low
+
+  by : (o : Option Held) → at n packets ≡ o → has_layer (place_of o) ≡ true
+  by None is = refl
+  by (Some (helds.Media text marker ts start key layers)) is =
+      let says = sound n (helds.Media text marker ts start key layers) is in
+      fits layers says.part.layers says.layers_are says.layers_fit
+  by (Some (helds.Empty marker)) is = refl
+  by (Some (helds.Fec payload)) is = refl
 
 module _ (are : RunsAre) where
   -- each run that stands is told of such a stretch
@@ -142,117 +141,157 @@ module _ (are : RunsAre) where
       Contains parts.frames told → IsTold codec parts told
   frame-is codec parts told kept there =
       let r : (run : Run) × Contains
-      (standing-by codec no_layers parts.front (is_start parts.front (is_among parts.known.began))
+      (standing-by codec (place_at parts.window.packets) parts.front (is_start parts.front (is_among parts.known.began))
       (packets_of parts)) run × (summary_of run ≡ told) =
-      map-from summary_of (standing-by codec no_layers parts.front (is_start parts.front (is_among parts.known.began))
+      map-from summary_of (standing-by codec (place_at parts.window.packets) parts.front (is_start parts.front (is_among parts.known.began))
       (packets_of parts)) told
       (subst (λ frames. Contains frames told)
       (kept.frames ∙ ap (map summary_of)
-      (standing_runs-whole codec parts.front parts.known (packets_of parts) kept.arrivals)) there) in
+      (standing_runs-whole codec (place_at parts.window.packets) parts.front parts.known (packets_of parts) kept.arrivals)) there) in
       record {
         run = r.0;
         told_is = r.2;
         is_run =
-            (standing-from are codec no_layers parts.front (is_start parts.front (is_among parts.known.began))
+            (standing-from are codec (place_at parts.window.packets) parts.front (is_start parts.front (is_among parts.known.began))
             (packets_of parts) r.0 r.1).0;
       }
 
-  -- the answers can be added, one after the other, once the runs below the window are dropped
-  answers-then : RunsRise → (codec : Meaning) (before : Assembly) (n : ℕ) (held : Held) (answers : List RunSummary)
-      → IsKept codec before → is_sorted nat_cmp before.window.packets ≡ true →
-      ((m : ℕ) → is_available m before.window.packets ≡ true → is_inside before.window.newest m ≡ true)
-      → would_of before.window n ≡ Fresh
-      → Completes (standing_runs codec no_layers before.front before.known (placed_now before.window n held))
-      (standing_runs codec no_layers before.front (then codec before.window n held before.front before.known)
-      (placed_now before.window n held)) answers
+  -- a run that stands begins in the window, and its TID is one of the four
+  may-stand : (codec : Meaning) (window : Contents Held) (front : Option ℕ) (k : Known) →
+      AreSound codec window.packets
+      → ((m : ℕ) → is_available m window.packets ≡ true → is_inside window.newest m ≡ true)
+      → (run : Run) → Contains (standing_runs codec (place_at window.packets) front k (contents window.packets)) run
+      → MayStand (lowest_of window.newest) (summary_of run)
+  may-stand codec window front k sound inside run there = record {
+    from = (inside-low window.newest run.first within).0;
+    below = (inside-low window.newest run.first within).1;
+    layer = ap has_layer (s.0).layers ∙ place-fits codec window.packets sound run.first;
+  } where
+    s : IsRunBy codec (place_at window.packets) (is_start front (is_among k.began))
+        (packets_under k.arrivals (contents window.packets)) run × (stands_run front run ≡ true)
+    s = standing-from are codec (place_at window.packets) front (is_start front (is_among k.began))
+        (packets_under k.arrivals (contents window.packets)) run there
+
+    first_there : is_available run.first (packets_under k.arrivals (contents window.packets)) ≡ true
+    first_there = run-available codec (place_at window.packets) (is_start front (is_among k.began))
+        (packets_under k.arrivals (contents window.packets)) run run.first s.0 (omega arith) (s.0).not_empty
+
+    within : is_inside window.newest run.first ≡ true
+    within =
+        let x = some-of (at run.first (packets_under k.arrivals (contents window.packets))) first_there in
+        inside run.first (sym (available-contents run.first window.packets)
+        ∙ ap is_some (at_where-from (λ m. is_available m k.arrivals) run.first (contents window.packets) x.0 x.1).1)
+
+  -- what one number more completes can be added to the runs that stand, one after the other
+  pub answers-can : RunsRise → (codec : Meaning) (window : Contents Held) (front : Option ℕ) (before after : Known)
+      (frames answers : List RunSummary) → AreSound codec window.packets → is_sorted nat_cmp window.packets ≡ true →
+      ((m : ℕ) → is_available m window.packets ≡ true → is_inside window.newest m ≡ true)
+      → frames ≡ frames_in codec window front before
+      → Completes
+      (standing_runs codec (place_at window.packets) front before (contents window.packets))
+      (standing_runs codec (place_at window.packets) front after (contents window.packets)) answers
       → IsStrictlySortedBy (λ (a b : RunSummary). nat_cmp a.first b.first) answers
-      → CanAdd (after_placing n held before.window).newest before.front before.last_pulled answers
-      (runs_from (lowest_of (after_placing n held before.window).newest) before.frames)
-  answers-then rise codec before n held answers kept sorted inside fresh completes rises =
-      subst (λ frames. CanAdd (after_placing n held before.window).newest before.front before.last_pulled answers
-      frames) (sym left)
-      (can-add (after_placing n held before.window).newest before.front before.last_pulled answers
-      (map summary_of (standing_runs codec no_layers before.front before.known (placed_now before.window n held)))
+      → CanAddAll answers frames
+  answers-can rise codec window front before after frames answers sound sorted inside stood completes rises =
+      subst (λ fs. CanAddAll answers fs) (sym stood)
+      (can-add (lowest_of window.newest) answers
+      (map summary_of (standing_runs codec (place_at window.packets) front before (contents window.packets)))
+      (rises-map first_of first_told summary_of (λ r. refl)
+      (standing_runs codec (place_at window.packets) front before (contents window.packets))
+      (known-rises rise codec (place_at window.packets) front before (contents window.packets)
+      (sorted-contents window.packets sorted)))
       (rises-from first_told answers rises)
-      (answers-apart (standing_runs codec no_layers before.front before.known (placed_now before.window n held))
-      (standing_runs codec no_layers before.front (then codec before.window n held before.front before.known)
-      (placed_now before.window n held)) answers
-      (known-rises rise codec before.front (then codec before.window n held before.front before.known)
-      (placed_now before.window n held) (sorted-after_placing before.window n held sorted)) completes)
-      each) where
-        missing : is_available n before.window.packets ≡ false
-        missing = (fresh-parts before.window n fresh).1
+      (answers-apart (standing_runs codec (place_at window.packets) front before (contents window.packets))
+      (standing_runs codec (place_at window.packets) front after (contents window.packets)) answers
+      (known-rises rise codec (place_at window.packets) front after (contents window.packets)
+      (sorted-contents window.packets sorted)) completes)
+      (all-of (λ r. (lowest_of window.newest ≤ r.first) × (r.first < lowest_of window.newest + WINDOW))
+      (map summary_of (standing_runs codec (place_at window.packets) front before (contents window.packets)))
+      (λ t there.
+      let r = map-from summary_of
+      (standing_runs codec (place_at window.packets) front before (contents window.packets)) t there in
+      let m : MayStand (lowest_of window.newest) (summary_of r.0) =
+      may-stand codec window front before sound inside r.0 r.1 in
+      subst (λ (x : RunSummary). (lowest_of window.newest ≤ x.first) × (x.first < lowest_of window.newest + WINDOW))
+      r.2 (m.from, m.below)))
+      (λ a there. let r = completes.only a there in
+      subst (λ (x : RunSummary). MayStand (lowest_of window.newest) x) r.2
+      (may-stand codec window front after sound inside r.0 r.1)))
 
-        young : in_window (newest_with before.window.newest n) n ≡ true
-        young = fresh-inside before.window.newest n (fresh-parts before.window n fresh).0
-
-        left : runs_from (lowest_of (after_placing n held before.window).newest) before.frames ≡ map summary_of
-            (standing_runs codec no_layers before.front before.known (placed_now before.window n held))
-        left = ap (runs_from (lowest_of (after_placing n held before.window).newest)) kept.frames
-            ∙ frames-left codec before.window n held before.front before.known are rise kept.arrivals sorted inside
-            missing
-
-        beyond : (o : Option ℕ) (run : Run) → stands_run o run ≡ true → is_passed o run.first ≡ false
-        beyond None run s = refl
-        beyond (Some front) run s = not-true (nat_le run.first front) s
-
-        later : (last front : Option ℕ) (run : Run) → IsUpTo last front → stands_run front run ≡ true →
-            IfSome last (λ l. l < run.first)
-        later None front run up s = tt
-        later (Some l) None run up s = absurd up
-        later (Some l) (Some f) run up s = let less : f < run.first = stands-beyond f run s in omega (arith, up)
-
-        each : (a : RunSummary) → Contains answers a →
-            (is_inside (after_placing n held before.window).newest a.first ≡ true)
-            × (is_passed before.front a.first ≡ false) × IfSome before.last_pulled (λ last. last < a.first)
-        each a there =
-            let r : (run : Run) × Contains
-            (standing_runs codec no_layers before.front
-            (then codec before.window n held before.front before.known) (placed_now before.window n held)) run
-            × (summary_of run ≡ a) = completes.only a there in
-            let s = standing-from are codec no_layers before.front
-            (is_start before.front (is_among (then codec before.window n held before.front before.known).began))
-            (placed_now before.window n held) r.0
-            (subst (λ runs. Contains runs r.0)
-            (standing_runs-whole codec before.front (then codec before.window n held before.front before.known)
-            (placed_now before.window n held)
-            (told-then codec before.window n held before.front before.known kept.arrivals)) r.1) in
-            let first_there : is_available r.0.first (placed_now before.window n held) ≡ true =
-            run-available codec no_layers
-            (is_start before.front (is_among (then codec before.window n held before.front before.known).began))
-            (placed_now before.window n held) r.0 r.0.first s.0 (omega arith) (s.0).not_empty in
-            subst (λ (t : RunSummary). (is_inside (after_placing n held before.window).newest t.first ≡ true)
-            × (is_passed before.front t.first ≡ false) × IfSome before.last_pulled (λ last. last < t.first)) r.2 (
-              now-inside before.window n held inside young missing r.0.first first_there,
-              beyond before.front r.0 s.1,
-              later before.last_pulled before.front r.0 kept.front.ahead s.1,
-            )
-
-  -- the same, by what the window and what is known are then
-  pub answers-added : RunsRise →
-      (codec : Meaning) (before : Assembly) (window : Contents Held) (known : Known) (n : ℕ) (held : Held)
-      (answers : List RunSummary)
-      → IsKept codec before → is_sorted nat_cmp before.window.packets ≡ true →
-      ((m : ℕ) → is_available m before.window.packets ≡ true → is_inside before.window.newest m ≡ true)
-      → would_of before.window n ≡ Fresh → window ≡ after_placing n held before.window
-      → known ≡ known_with codec window.newest n before.front (contents window.packets) before.known
-      → Completes (standing_runs codec no_layers before.front before.known (contents window.packets))
-      (standing_runs codec no_layers before.front known (contents window.packets)) answers
+  -- and then those stand that are known
+  pub answers-stand : RunsRise → (codec : Meaning) (window : Contents Held) (front : Option ℕ) (before after : Known)
+      (frames answers : List RunSummary) → is_sorted nat_cmp window.packets ≡ true
+      → frames ≡ frames_in codec window front before
+      → Completes
+      (standing_runs codec (place_at window.packets) front before (contents window.packets))
+      (standing_runs codec (place_at window.packets) front after (contents window.packets)) answers
       → IsStrictlySortedBy (λ (a b : RunSummary). nat_cmp a.first b.first) answers
-      → CanAdd window.newest before.front before.last_pulled answers
-      (runs_from (lowest_of window.newest) before.frames)
-  answers-added rise codec before window known n held answers kept sorted inside fresh placed_is known_is completes
-      rises =
-      subst (λ (w : Contents Held).
-      CanAdd w.newest before.front before.last_pulled answers (runs_from (lowest_of w.newest) before.frames))
-      (sym placed_is)
-      (answers-then rise codec before n held answers kept sorted inside fresh
-      (subst (λ (w : Contents Held).
-      Completes (standing_runs codec no_layers before.front before.known (contents w.packets))
-      (standing_runs codec no_layers before.front
-      (known_with codec w.newest n before.front (contents w.packets) before.known) (contents w.packets)) answers)
-      placed_is
-      (subst (λ (k : Known). Completes
-      (standing_runs codec no_layers before.front before.known (contents window.packets))
-      (standing_runs codec no_layers before.front k (contents window.packets)) answers) known_is completes))
-      rises)
+      → with_runs answers frames ≡ frames_in codec window front after
+  answers-stand rise codec window front before after frames answers sorted stood completes rises =
+      ap (with_runs answers) stood
+      ∙ completed-list (standing_runs codec (place_at window.packets) front before (contents window.packets))
+      (standing_runs codec (place_at window.packets) front after (contents window.packets)) answers
+      (known-rises rise codec (place_at window.packets) front before (contents window.packets)
+      (sorted-contents window.packets sorted))
+      (known-rises rise codec (place_at window.packets) front after (contents window.packets)
+      (sorted-contents window.packets sorted)) completes (rises-from first_told answers rises)
+
+-- what two steps complete, one after the other
+pub completes-both : (before middle after : List Run) (answers more : List RunSummary) →
+    Completes before middle answers → Completes middle after more → Completes before after (answers ++ more)
+completes-both before middle after answers more one two = record {
+  either = λ run c. elim (two.either run c) [
+    | inl was ↦ elim (one.either run was) [
+      | inl first ↦ inl first
+      | inr new ↦ inr (Contains-append_left answers more (summary_of run) new)
+    ]
+    | inr new ↦ inr (Contains-append_right answers more (summary_of run) new)
+  ];
+  not_both = λ run c was new. elim (Contains-append_cases answers more (summary_of run) new) [
+    | inl first ↦ one.not_both run (one.stay run was) was first
+    | inr later ↦ two.not_both run c (one.stay run was) later
+  ];
+  only = λ told c. elim (Contains-append_cases answers more told c) [
+    | inl first ↦ let r : (run : Run) × Contains middle run × (summary_of run ≡ told) = one.only told first in
+        (r.0, two.stay r.0 r.1, r.2)
+    | inr later ↦ two.only told later
+  ];
+  stay = λ run c. two.stay run (one.stay run c);
+}
+
+-- and whether a keyframe does
+pub completes-with : (codec : Meaning) (window : Contents Held) (front : Option ℕ) (before middle after : Known)
+    (key more : Bool) → CompletesWith codec window front before middle key →
+    CompletesWith codec window front middle after more → CompletesWith codec window front before after (key || more)
+completes-with codec window front before middle after key more one two = record {
+  answers = one.answers ++ two.answers;
+  completes = completes-both
+      (standing_runs codec (place_at window.packets) front before (contents window.packets))
+      (standing_runs codec (place_at window.packets) front middle (contents window.packets))
+      (standing_runs codec (place_at window.packets) front after (contents window.packets))
+      one.answers two.answers one.completes two.completes;
+  key_is = ap (λ b. b || more) one.key_is ∙ ap (λ b. list_any (λ (run : RunSummary). run.key) one.answers || b) two.key_is
+      ∙ sym (any-append one.answers two.answers);
+} where
+  any-append : (xs ys : List RunSummary) → list_any (λ (run : RunSummary). run.key) (xs ++ ys)
+      ≡ (list_any (λ (run : RunSummary). run.key) xs || list_any (λ (run : RunSummary). run.key) ys)
+  any-append [] ys = refl
+  any-append (x ∷ xs) ys = ap (λ b. x.key || b) (any-append xs ys)
+      ∙ assoc x.key (list_any (λ (run : RunSummary). run.key) xs) (list_any (λ (run : RunSummary). run.key) ys) where
+        assoc : (a b c : Bool) → (a || (b || c)) ≡ ((a || b) || c)
+        assoc true b c = refl
+        assoc false b c = refl
+
+-- before anything is told nothing completes
+pub completes-none : (codec : Meaning) (window : Contents Held) (front : Option ℕ) (known : Known) →
+    CompletesWith codec window front known known false
+completes-none codec window front known = record {
+  answers = [];
+  completes = record {
+    either = λ run c. inl c;
+    not_both = λ run c was new. Contains-empty (summary_of run) new;
+    only = λ told c. absurd (Contains-empty told c);
+    stay = λ run c. c;
+  };
+  key_is = refl;
+}

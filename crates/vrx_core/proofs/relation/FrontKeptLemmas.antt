@@ -1,22 +1,21 @@
 -- The front keeps what always holds of it.
-use Rattle.std.proofs.Common.{◌≡◌, ℕ, ◌+◌, ◌<◌, ◌≤◌, ◌⊎◌, max, Bool, true, false, Option, Some, None, is_some, IfSome, IsSomeAnd, refl, sym, ◌∙◌, ap, subst, arith, inl, inr}
-use Rattle.std.proofs.lemmas.Bool.{cases_lt, cases_eq, true≢false}
+use Rattle.std.proofs.Common.{◌≡◌, ℕ, ◌+◌, ◌<◌, ◌≤◌, ◌⊎◌, max, Bool, true, Option, Some, None, is_some, IfSome, IsSomeAnd, refl, sym, ◌∙◌, ap, subst, arith, inl, inr}
+use Rattle.std.proofs.lemmas.Bool.{cases_lt, true≢false}
 use Rattle.vrx_num.specs.declared.limits.TheConstants.{WINDOW}
 use Rattle.vrx_codec.specs.Meaning.{Meaning}
-use Rattle.vrx_window.specs.Content.{Content, contents}
-use Rattle.vrx_window.specs.Window.{Contents, at, in_window, is_available, is_inside, newest_with, after_placing}
-use Rattle.vrx_window.specs.declared.held.Held.{Held}
+use Rattle.vrx_codec.specs.declared.run.Place.{Place}
+use Rattle.vrx_window.specs.Content.{Content}
+use Rattle.vrx_window.specs.Window.{at, in_window, is_available, is_inside}
 use Rattle.vrx_frames.specs.Completed.{IsUpTo}
 use Rattle.vrx_frames.specs.Front.{front_after, is_no_media}
 use Rattle.vrx_frames.specs.IsRun.{IsRunBy}
 use Rattle.vrx_frames.specs.Run.{Packets, Piece, Run, stands}
-use Rattle.vrx_core.specs.machine.Standing.{no_layers}
 use Rattle.vrx_core.specs.relation.StandsFor.{Assembly}
 use Rattle.vrx_core.specs.inside.Step.{IsFront, packets_of}
-use Rattle.vrx_core.proofs.relation.MapLemmas.{some-of}
 use Rattle.vrx_core.proofs.relation.RunMoveLemmas.{run-available, stands-beyond}
 use Rattle.vrx_core.proofs.relation.FrontLemmas.{GoesOn, front-first, front-next, over-available}
-use Rattle.vrx_core.proofs.relation.WindowLemmas.{inside-order, order-window, after_placing-from, after_placing-stays, window-order}
+use Rattle.vrx_core.proofs.relation.WindowLemmas.{inside-order, order-window, window-order}
+use Rattle.vrx_core.proofs.relation.GrowLemmas.{Grows}
 
 -- what always holds of a front, beside the last number pulled, the newest number and the packets
 pub record IsFrontOf (last front newest : Option ℕ) (packets : Packets) : Type 0 where
@@ -78,68 +77,54 @@ module _ (packets : Packets) (newest : Option ℕ)
   goes-some from after n g upto = subst (λ (o : Option ℕ). IsSomeAnd o (λ front. n ≤ front)) g.front_is upto
 
   -- after a run was handed out
-  pub front-pulled : (codec : Meaning) (starts : Piece → Bool) (front : Option ℕ) (run : Run) →
-      IsRunBy codec no_layers starts packets run → stands front run ≡ true
+  pub front-pulled : (codec : Meaning) (place : ℕ → Option Place) (starts : Piece → Bool) (front : Option ℕ)
+      (run : Run) → IsRunBy codec place starts packets run → stands front run ≡ true
       → GoesOn packets run.last (front_after front (Some run.last) packets)
-  front-pulled codec starts None run r s = front-first packets run.last
-  front-pulled codec starts (Some old) run r s =
+  front-pulled codec place starts None run r s = front-first packets run.last
+  front-pulled codec place starts (Some old) run r s =
       let less : old < run.first = stands-beyond old run s in let within : run.first ≤ run.last = r.not_empty in
       let same : max old run.last ≡ run.last = omega arith in
       subst (λ k. GoesOn packets k (front_after (Some old) (Some run.last) packets)) same
       (front-next packets old run.last)
 
   -- and the front keeps what holds of it
-  pub front-kept : (codec : Meaning) (starts : Piece → Bool) (front : Option ℕ) (run : Run) →
-      IsRunBy codec no_layers starts packets run → stands front run ≡ true
+  pub front-kept : (codec : Meaning) (place : ℕ → Option Place) (starts : Piece → Bool) (front : Option ℕ)
+      (run : Run) → IsRunBy codec place starts packets run → stands front run ≡ true
       → IsFrontOf (Some run.last) (front_after front (Some run.last) packets) newest packets
-  front-kept codec starts front run r s = record {
+  front-kept codec place starts front run r s = record {
     both = ap is_some g.front_is;
     ahead = goes-upto packets run.last (front_after front (Some run.last) packets) g (Some run.last) (omega arith);
     within = goes-within run.last (front_after front (Some run.last) packets) g
         (available-upto run.last
-        (run-available codec no_layers starts packets run run.last r r.not_empty (omega arith)));
+        (run-available codec place starts packets run run.last r r.not_empty (omega arith)));
     over = λ n later upto in_window.
         g.over n later (goes-some run.last (front_after front (Some run.last) packets) n g upto);
   } where
     g : GoesOn packets run.last (front_after front (Some run.last) packets)
-    g = front-pulled codec starts front run r s
+    g = front-pulled codec place starts front run r s
 
-module _ (window : Contents Held) (n : ℕ) (held : Held)
-    (inside : (m : ℕ) → is_available m window.packets ≡ true → is_inside window.newest m ≡ true)
-    (young : in_window (newest_with window.newest n) n ≡ true)
-    (missing : is_available n window.packets ≡ false) where
-  abbrev now : Packets
-  now = contents (after_placing n held window).packets
-
-  -- all packets lie in the new window
-  pub now-inside : (m : ℕ) → is_available m now ≡ true → in_window (newest_with window.newest n) m ≡ true
-  now-inside m there = elim (cases_eq m n) [
-    | inl same ↦ subst (λ k. in_window (newest_with window.newest n) k ≡ true) (sym same) young
-    | inr other ↦ let x : (c : Content) × (at m now ≡ Some c) =
-        some-of (at m now) there in (after_placing-from window n held m x.0 other x.1).0
-  ]
-
+module _ (packets now : Packets) (newest : Option ℕ) (top : ℕ) (grows : Grows packets now newest top) where
   -- a number that was no media is it still, if it is in the window
-  no-media-stays : (m : ℕ) → IsSomeAnd (at m (contents window.packets)) (λ content. is_no_media content ≡ true) →
-      in_window (newest_with window.newest n) m ≡ true → IsSomeAnd (at m now) (λ content. is_no_media content ≡ true)
+  no-media-stays : (m : ℕ) → IsSomeAnd (at m packets) (λ content. is_no_media content ≡ true) →
+      in_window top m ≡ true → IsSomeAnd (at m now) (λ content. is_no_media content ≡ true)
   no-media-stays m h in_new =
       subst (λ (o : Option Content). IsSomeAnd o (λ content. is_no_media content ≡ true))
-      (sym (after_placing-stays window n held m missing (over-available m (contents window.packets) h) in_new)) h
+      (sym (grows.stays m (over-available m packets h) in_new)) h
 
   -- a number of the new window that isn't above the old newest number was in the old window
-  old-inside : (m f : ℕ) (o : Option ℕ) → IsSomeAnd o (λ k. f ≤ k) → m ≤ f → in_window (newest_with o n) m ≡ true →
-      is_inside o m ≡ true
-  old-inside m f None h upto in_new = absurd h
-  old-inside m f (Some k) h upto in_new = let order : (max k n < m + WINDOW) × (m ≤ max k n) =
-      window-order (max k n) m in_new in order-window k m (omega (arith, order.0)) (omega (arith, h))
+  old-inside : (m f : ℕ) (o : Option ℕ) → IsUpTo o (Some top) → IsSomeAnd o (λ k. f ≤ k) → m ≤ f →
+      in_window top m ≡ true → is_inside o m ≡ true
+  old-inside m f None up h upto in_new = absurd h
+  old-inside m f (Some k) up h upto in_new = let order : (top < m + WINDOW) × (m ≤ top) =
+      window-order top m in_new in order-window k m (omega (arith, order.0, up)) (omega (arith, h))
 
   -- a number that isn't above the newest isn't above the next newest
-  some-upto : (f : ℕ) (o : Option ℕ) → IsSomeAnd o (λ k. f ≤ k) → f ≤ newest_with o n
-  some-upto f None h = absurd h
-  some-upto f (Some k) h = omega (arith, h)
+  some-upto : (f : ℕ) (o : Option ℕ) → IsUpTo o (Some top) → IsSomeAnd o (λ k. f ≤ k) → f ≤ top
+  some-upto f None up h = absurd h
+  some-upto f (Some k) up h = omega (arith, up, h)
 
-  -- after a packet was taken, the front goes on from where it was
-  pub front-goes : (last front : Option ℕ) → IsFrontOf last front window.newest (contents window.packets)
+  -- after packets came, the front goes on from where it was
+  pub front-goes : (last front : Option ℕ) → IsFrontOf last front newest packets
       → ((last ≡ None) × (front ≡ None)) ⊎ ((f : ℕ) × (front ≡ Some f) × GoesOn now f (front_after front last now))
   front-goes None None is = inl (refl, refl)
   front-goes None (Some f) is = absurd (true≢false is.both)
@@ -149,26 +134,25 @@ module _ (window : Contents Held) (n : ℕ) (held : Held)
       inr (f, refl, subst (λ k. GoesOn now k (front_after (Some f) (Some l) now)) same (front-next now f l))
 
   -- and keeps what holds of it
-  pub front-taken : (last front : Option ℕ) → IsFrontOf last front window.newest (contents window.packets) →
-      IsFrontOf last (front_after front last now) (Some (newest_with window.newest n)) now
+  pub front-taken : (last front : Option ℕ) → IsFrontOf last front newest packets →
+      IsFrontOf last (front_after front last now) (Some top) now
   front-taken last front is = by (front-goes last front is) where
     by : ((last ≡ None) × (front ≡ None)) ⊎ ((f : ℕ) × (front ≡ Some f) × GoesOn now f (front_after front last now)) →
-        IsFrontOf last (front_after front last now) (Some (newest_with window.newest n)) now
-    by (inl none) = subst (λ (l : Option ℕ).
-        IsFrontOf l (front_after front l now) (Some (newest_with window.newest n)) now) (sym none.0)
+        IsFrontOf last (front_after front last now) (Some top) now
+    by (inl none) = subst (λ (l : Option ℕ). IsFrontOf l (front_after front l now) (Some top) now) (sym none.0)
         (record { both = refl; ahead = tt; within = tt; over = λ m later upto in_new. absurd upto })
     by (inr some) = record {
       both = ap is_some g.front_is ∙ sym (ap is_some some.1) ∙ is.both;
       ahead = goes-upto now f (front_after front last now) g last
           (subst (λ (o : Option ℕ). IsUpTo last o) some.1 is.ahead);
-      within = goes-within now (Some (newest_with window.newest n)) now-inside f (front_after front last now) g
-          (some-upto f window.newest below);
+      within = goes-within now (Some top) grows.inside f (front_after front last now) g
+          (some-upto f newest grows.upto below);
       over = λ m later upto in_new. elim (cases_lt f m) [
         | inl less ↦ g.over m less
-            (goes-some now (Some (newest_with window.newest n)) now-inside f (front_after front last now) m g upto)
+            (goes-some now (Some top) grows.inside f (front_after front last now) m g upto)
         | inr within ↦ no-media-stays m
             (is.over m later (subst (λ (o : Option ℕ). IsSomeAnd o (λ front. m ≤ front)) (sym some.1) within)
-            (old-inside m f window.newest below within in_new)) in_new
+            (old-inside m f newest grows.upto below within in_new)) in_new
       ];
     } where
       f : ℕ
@@ -177,5 +161,5 @@ module _ (window : Contents Held) (n : ℕ) (held : Held)
       g : GoesOn now f (front_after front last now)
       g = some.2
 
-      below : IsSomeAnd window.newest (λ k. f ≤ k)
-      below = subst (λ (o : Option ℕ). IsUpTo o window.newest) some.1 is.within
+      below : IsSomeAnd newest (λ k. f ≤ k)
+      below = subst (λ (o : Option ℕ). IsUpTo o newest) some.1 is.within

@@ -1,25 +1,32 @@
 -- What the machine remembers: what was available is still, or lies below the window; and a number that is fresh never
 -- stood right after the end of a frame.
-use Rattle.std.proofs.Common.{◌≡◌, ℕ, ◌+◌, ◌-◌, ◌<◌, ◌≤◌, ◌⊎◌, max, Bool, true, false, ◌||◌, List, [], ◌∷◌, Contains, Option, Some, None, is_some, IsSomeAnd, refl, sym, ◌∙◌, ap, subst, arith, inl, inr, nat_cmp}
-use Rattle.std.specs.Prelude.{Result, Ok, Err, nat_lt, nat_le}
+use Rattle.std.proofs.Common.{◌≡◌, ℕ, ◌+◌, ◌-◌, ◌<◌, ◌≤◌, ◌⊎◌, max, Bool, true, false, cond, ◌||◌, List, [], ◌∷◌, Contains, Option, Some, None, is_some, IsSomeAnd, refl, sym, ◌∙◌, ap, subst, arith, inl, inr, nat_cmp}
+use Rattle.std.specs.Prelude.{Result, Ok, Err, nat_lt, nat_le, ◌==◌}
 use Rattle.std.specs.List.{AllByRecursion, list_any}
 use Rattle.std.specs.Option.{option_map_or}
 use Rattle.std.specs.FinMap.Entries.{where_key}
-use Rattle.std.proofs.lemmas.Bool.{and_cases, and_left, cases_Bool, cases_eq, false_from_ne_true, le-leb, leb-true, leb-false, ltb-false, or_from, true≢false}
+use Rattle.std.proofs.lemmas.Bool.{and_cases, and_left, and_parts, cases_Bool, cases_eq, eqb-true, false_from_ne_true, le-leb, leb-true, leb-false, ltb-false, or_from, true≢false}
 use Rattle.vrx_num.specs.declared.limits.TheConstants.{WINDOW}
 use Rattle.vrx_codec.specs.Meaning.{Meaning}
+use Rattle.vrx_codec.specs.declared.part.Layers.{Layers}
 use Rattle.vrx_window.specs.Content.{Content}
-use Rattle.vrx_window.specs.Window.{Contents, at, in_window, is_available, is_too_old, newest_with, after_placing}
+use Rattle.vrx_window.specs.Window.{Contents, at, in_window, is_available, is_inside, is_too_old, newest_with, after_placing}
 use Rattle.vrx_frames.specs.Run.{Packets, Run, ends_frame, is_start, stands_after_end}
+use Rattle.vrx_repair.specs.Commit.{place_beside}
+use Rattle.vrx_repair.specs.Plan.{repairs_in}
+use Rattle.vrx_repair.specs.Source.{Source}
+use Rattle.vrx_repair.specs.Step.{with_repairs}
 use Rattle.vrx_core.specs.machine.Snapshot.{moved}
-use Rattle.vrx_core.specs.machine.Machine.{Snapshot, after_datagram, after_pull, last_pulled, latest, next_run, snapshots, times}
-use Rattle.vrx_core.specs.machine.Standing.{began_after_end, no_layers, standing_of}
+use Rattle.vrx_core.specs.machine.Machine.{Snapshot, after_datagram, after_pull, last_pulled, latest, next_run, snapshots, source_in, times, with_repaired}
+use Rattle.vrx_core.specs.machine.Standing.{began_after_end, standing_of}
+use Rattle.vrx_core.specs.machine.Told.{Told, layers_of, place_told, newest_picture, told_by, told_with}
 use Rattle.vrx_core.specs.machine.Verdict.{verdict}
 use Rattle.vrx_core.specs.declared.event.Event.{Event}
 use Rattle.vrx_core.specs.declared.event.Event.TheVariants.{Datagram, Tick, Pull}
 use Rattle.vrx_core.specs.declared.original.NotTaken.{NotTaken}
 use Rattle.vrx_core.specs.declared.settings.Settings.{Settings}
-use Rattle.vrx_core.proofs.relation.ListLemmas.{all-of, all-in}
+use Rattle.vrx_core.proofs.machine.RepairLemmas.{FillAll, fill-each, fill-from, fill-here, fill-stays, repairs-fill}
+use Rattle.vrx_core.proofs.relation.ListLemmas.{Contains-either, Contains-head, Contains-tail, all-of, all-in}
 use Rattle.vrx_core.proofs.relation.MapLemmas.{at_put-here, at_put-other, at_where-from, at_where-yes, some-of}
 use Rattle.vrx_core.proofs.relation.RunMoveLemmas.{standing-by}
 use Rattle.vrx_core.proofs.relation.WindowLemmas.{newest-number}
@@ -40,7 +47,7 @@ began-again past = λ i n. again past n i
 
 -- the runs that stand are those of the present and the past
 abbrev pub IsSettled : Meaning → List Snapshot → Type 0
-IsSettled codec past = (latest past).standing ≡ standing_of codec (times past) (latest past).front
+IsSettled codec past = (latest past).standing ≡ standing_of codec (latest past).told (times past) (latest past).front
     (last_pulled (latest past).pulled) (latest past).window.packets
 
 -- a tick keeps it
@@ -48,14 +55,14 @@ settled-tick : (codec : Meaning) (past : List Snapshot) (moment : ℕ) → IsSet
     IsSettled codec (moved (latest past) moment ∷ past)
 settled-tick codec past moment is = is
     ∙ sym (ap (λ (test : ℕ → Bool).
-    standing-by codec no_layers (last_pulled (latest past).pulled) (is_start (latest past).front test)
+    standing-by codec (place_told (latest past).told) (last_pulled (latest past).pulled) (is_start (latest past).front test)
     (latest past).window.packets) (began-again past))
 
 -- a datagram keeps it
-settled-datagram : (codec : Meaning) (past : List Snapshot) (moment : ℕ) (v : Result (ℕ × Content) NotTaken) →
-    IsSettled codec past → IsSettled codec (after_datagram codec past moment v ∷ past)
-settled-datagram codec past moment (Ok (n, content)) is = refl
-settled-datagram codec past moment (Err left) is = settled-tick codec past moment is
+settled-datagram : (source : Source) (past : List Snapshot) (moment : ℕ) (v : Result (ℕ × Content) NotTaken) →
+    IsSettled source.codec past → IsSettled source.codec (after_datagram source past moment v ∷ past)
+settled-datagram source past moment (Ok (n, content)) is = refl
+settled-datagram source past moment (Err left) is = settled-tick source.codec past moment is
 
 -- a pull keeps it
 settled-pull : (codec : Meaning) (past : List Snapshot) (moment : ℕ) (o : Option Run) → IsSettled codec past →
@@ -69,7 +76,7 @@ pub settled-always : (settings : Settings) (codec : Meaning) (h : List Event) �
 unfolding snapshots
 settled-always settings codec [] = refl
 settled-always settings codec (Datagram moment octets ∷ h) =
-    settled-datagram codec (snapshots settings codec h) moment
+    settled-datagram (source_in settings codec) (snapshots settings codec h) moment
     (verdict settings codec (latest (snapshots settings codec h)).window octets) (settled-always settings codec h)
 settled-always settings codec (Tick moment ∷ h) =
     settled-tick codec (snapshots settings codec h) moment (settled-always settings codec h)
@@ -156,13 +163,55 @@ module _ (window : Contents Content) (k : ℕ) (content : Content) where
     );
   }
 
+-- the window in which a packet was placed, with these repairs
+module _ (source : Source) (placed : Contents Content) (made : List (ℕ × Content))
+    (fill : FillAll source placed.newest placed.dead placed.packets made) where
+  -- what is available or too old stays so
+  pub known-repaired : (n : ℕ) → IsKnownIn placed n → IsKnownIn (with_repaired made placed) n
+  known-repaired n (inl there) =
+      let x : (content : Content) × (at n placed.packets ≡ Some content) = some-of (at n placed.packets) there in
+      inl (ap is_some (fill-stays source placed.newest placed.dead placed.packets made fill n x.0 x.1))
+  known-repaired n (inr old) = inr old
+
+  -- a number that is inside isn't above the newest
+  inside-upto : (newest : Option ℕ) (n : ℕ) → is_inside newest n ≡ true → IsSomeAnd newest (λ m. n ≤ m)
+  inside-upto None n h = absurd (true≢false (sym h))
+  inside-upto (Some m) n h = leb-true n m (and_parts (nat_lt m (n + WINDOW)) (nat_le n m) h).1
+
+  repaired-window : (past : List Packets) → Remembers placed (placed.packets ∷ past) →
+      Remembers (with_repaired made placed) ((with_repaired made placed).packets ∷ past)
+  repaired-window past r = record {
+    upto = λ n there.
+        let x : (content : Content) × (at n (with_repairs made placed.packets) ≡ Some content) =
+        some-of (at n (with_repairs made placed.packets)) there in
+        elim (fill-from source placed.newest placed.dead placed.packets made fill n x.0 x.1) [
+          | inl was ↦ r.upto n (ap is_some was)
+          | inr new ↦ inside-upto placed.newest n
+              (fill-each source placed.newest placed.dead placed.packets made fill (n, x.0) new).inside
+        ];
+    gone = (
+      (λ n there. inl there),
+      all-of (λ packets. (n : ℕ) → is_available n packets ≡ true → IsKnownIn (with_repaired made placed) n) past
+          (λ packets among n there. known-repaired n
+          (all-in (λ ps. (m : ℕ) → is_available m ps ≡ true → IsKnownIn placed m) past packets r.gone.1 among n there)),
+    );
+  }
+
+-- the repairs of a window fill gaps
+pub repairs-filled : (source : Source) (window : Contents Content) →
+    FillAll source window.newest window.dead window.packets (repairs_in source window)
+unfolding repairs_in
+repairs-filled source window = repairs-fill source window.newest window.dead WINDOW window.packets
+
 -- a datagram keeps it
-remembers-datagram : (codec : Meaning) (past : List Snapshot) (moment : ℕ) (v : Result (ℕ × Content) NotTaken) →
+remembers-datagram : (source : Source) (past : List Snapshot) (moment : ℕ) (v : Result (ℕ × Content) NotTaken) →
     Remembers (latest past).window (times past)
-    → Remembers (after_datagram codec past moment v).window (times (after_datagram codec past moment v ∷ past))
-remembers-datagram codec past moment (Ok (n, content)) r =
-    after_placing-window (latest past).window n content (times past) r
-remembers-datagram codec past moment (Err left) r = same-window (latest past).window (times past) r
+    → Remembers (after_datagram source past moment v).window (times (after_datagram source past moment v ∷ past))
+remembers-datagram source past moment (Ok (n, content)) r =
+    let placed : Contents Content = after_placing n content (latest past).window in
+    repaired-window source placed (repairs_in source placed) (repairs-filled source placed) (times past)
+    (after_placing-window (latest past).window n content (times past) r)
+remembers-datagram source past moment (Err left) r = same-window (latest past).window (times past) r
 
 -- a pull keeps it
 remembers-pull : (codec : Meaning) (past : List Snapshot) (moment : ℕ) (o : Option Run) →
@@ -181,7 +230,7 @@ remembers settings codec [] =
       gone = ((λ n there. absurd (true≢false (sym there))), tt);
     }
 remembers settings codec (Datagram moment octets ∷ h) =
-    remembers-datagram codec (snapshots settings codec h) moment
+    remembers-datagram (source_in settings codec) (snapshots settings codec h) moment
     (verdict settings codec (latest (snapshots settings codec h)).window octets) (remembers settings codec h)
 remembers settings codec (Tick moment ∷ h) = let r =
     same-window (latest (snapshots settings codec h)).window (times (snapshots settings codec h))
@@ -210,3 +259,76 @@ never-began window past n r missing young =
           or_from (stands_after_end n packets) (list_any (stands_after_end n) ps)
           (and_left (is_available n packets) (option_map_or ends_frame (at (n - 1) packets) false) all.0)
           (none ps all.1)
+
+-- what told a place is available, or too old
+abbrev pub IsToldIn : Snapshot → Type 0
+IsToldIn s = (n : ℕ) → is_some (place_told s.told n) ≡ true → IsKnownIn s.window n
+
+-- what told a place did so before, or is among those that tell one more
+told-from : (codec : Meaning) (packets : List (ℕ × Content)) (told : Told) (n : ℕ) →
+    is_some (place_told (told_with codec packets told) n) ≡ true →
+    (is_some (place_told told n) ≡ true) ⊎ ((content : Content) × Contains packets (n, content))
+told-from codec [] told n is = inl is
+told-from codec (packet ∷ more) told n is =
+    elim (told-from codec more (told_by packet.0 (layers_of codec packet.1) told) n is) [
+      | inl was ↦ by (layers_of codec packet.1) was
+      | inr later ↦ inr (later.0, Contains-tail packet more (n, later.0) later.1)
+    ] where
+      by : (layers : Option Layers) → is_some (place_told (told_by packet.0 layers told) n) ≡ true →
+          (is_some (place_told told n) ≡ true)
+          ⊎ ((content : Content) × Contains (packet ∷ more) (n, content))
+      by None was = inl was
+      by (Some layers) was = elim (cases_Bool (packet.0 == n)) [
+        | inl same ↦ inr (
+          packet.1,
+          subst (λ k. Contains (packet ∷ more) (k, packet.1)) (eqb-true packet.0 n same)
+              (Contains-head packet more),
+        )
+        | inr other ↦ inl (sym (ap (λ b. is_some (cond b (Some (place_beside (newest_picture told) layers))
+            (place_told told n))) other) ∙ was)
+      ]
+
+told-datagram : (source : Source) (past : List Snapshot) (moment : ℕ) (v : Result (ℕ × Content) NotTaken) →
+    Remembers (latest past).window (times past) → IsToldIn (latest past) →
+    IsToldIn (after_datagram source past moment v)
+told-datagram source past moment (Err left) r told m is = told m is
+told-datagram source past moment (Ok (n, content)) r told m is =
+    elim (told-from source.codec ((n, content) ∷ made) (latest past).told m is) [
+      | inl was ↦ known-repaired source placed made fill m
+          (known-after_placing (latest past).window n content r.upto m (told m was))
+      | inr new ↦ elim (Contains-either (n, content) made (m, new.0) new.1) [
+        | inl same ↦ known-repaired source placed made fill m
+            (inl (subst (λ (e : ℕ × Content). is_available e.0 placed.packets ≡ true) same
+            (ap is_some (at_put-here n content
+            (where_key nat_cmp (in_window (newest_with (latest past).window.newest n)) (latest past).window.packets)))))
+        | inr later ↦ inl (ap is_some
+            (fill-here source placed.newest placed.dead placed.packets made fill (m, new.0) later))
+      ]
+    ] where
+      placed : Contents Content
+      placed = after_placing n content (latest past).window
+
+      made : List (ℕ × Content)
+      made = repairs_in source placed
+
+      fill : FillAll source placed.newest placed.dead placed.packets made
+      fill = repairs-filled source placed
+
+told-pull : (codec : Meaning) (past : List Snapshot) (moment : ℕ) (o : Option Run) → IsToldIn (latest past) →
+    IsToldIn (after_pull codec past moment o)
+told-pull codec past moment None told = told
+told-pull codec past moment (Some run) told = told
+
+-- after each history it is so
+pub told-always : (settings : Settings) (codec : Meaning) (h : List Event) →
+    IsToldIn (latest (snapshots settings codec h))
+unfolding snapshots
+told-always settings codec [] n is = absurd (true≢false (sym is))
+told-always settings codec (Datagram moment octets ∷ h) n is =
+    told-datagram (source_in settings codec) (snapshots settings codec h) moment
+    (verdict settings codec (latest (snapshots settings codec h)).window octets) (remembers settings codec h)
+    (told-always settings codec h) n is
+told-always settings codec (Tick moment ∷ h) n is = told-always settings codec h n is
+told-always settings codec (Pull moment ∷ h) n is =
+    told-pull codec (snapshots settings codec h) moment (next_run (latest (snapshots settings codec h)))
+    (told-always settings codec h) n is

@@ -1,12 +1,14 @@
 -- The least of the runs that stand which is deliverable, and the first in their order.
-use Rattle.std.proofs.Common.{◌≡◌, ℕ, ◌-◌, ◌<◌, Bool, true, false, cond, ◌&&◌, ◌||◌, List, [], ◌∷◌, map, Option, Some, None, is_some, is_none, refl, sym, ◌∙◌, ap, subst, arith}
+use Rattle.std.proofs.Common.{◌≡◌, ℕ, ◌<◌, Bool, true, false, cond, ◌&&◌, List, [], ◌∷◌, map, Option, Some, None, refl, sym, ◌∙◌, ap, subst, arith}
 use Rattle.std.specs.List.{AllByRecursion, filter, find}
 use Rattle.std.specs.Option.{option_map}
-use Rattle.std.proofs.lemmas.Bool.{le-ltb, true≢false}
+use Rattle.std.proofs.lemmas.Bool.{le-ltb}
+use Rattle.vrx_buffer.specs.Frames.{is_deliverable, next_of}
 use Rattle.vrx_frames.specs.Completed.{IsUpTo}
-use Rattle.vrx_frames.specs.Run.{Run, is_passed as is_passed_run, stands, summary_of}
+use Rattle.vrx_frames.specs.Run.{Run, stands, summary_of}
 use Rattle.vrx_core.specs.machine.Deliverable.{answer, is_deliverable as is_deliverable_run, least, lesser}
-use Rattle.vrx_core.specs.relation.Frames.{is_deliverable, is_passed, next_of}
+use Rattle.vrx_core.specs.machine.Snapshot.{last_pulled}
+use Rattle.vrx_core.specs.machine.Told.{Told, sightings}
 use Rattle.vrx_core.proofs.relation.ListLemmas.{Rises, all-in, all-of, find-map, find-same, rises-filter}
 use Rattle.vrx_core.proofs.relation.RunMoveLemmas.{beyond-stands, stands-beyond}
 use Rattle.vrx_core.proofs.relation.AddLemmas.{first_of}
@@ -31,19 +33,6 @@ least-find test (run ∷ runs) rises = either (test run) refl (least-find test r
       (rises-filter first_of test (run ∷ runs) rises))
   either false fail rest = rest
 
--- of a run that stands, the tests of both sides are one
-same-test : (last front : Option ℕ) (run : Run) → is_some front ≡ is_some last → stands last run ≡ true →
-    is_deliverable_run last front run ≡ is_deliverable front (summary_of run)
-same-test last front run both s =
-    ap (λ b. b && (run.key || (is_none run.layers && (is_some last && is_passed_run front (run.first - 1))))) s
-    ∙ ap (λ b. run.key || (is_none run.layers && b)) (evident last front both) where
-      evident : (last front : Option ℕ) → is_some front ≡ is_some last →
-          (is_some last && is_passed_run front (run.first - 1)) ≡ is_passed front (run.first - 1)
-      evident None None h = refl
-      evident None (Some f) h = absurd (true≢false h)
-      evident (Some l) None h = absurd (true≢false (sym h))
-      evident (Some l) (Some f) h = refl
-
 -- a run beyond the front is beyond the last number pulled
 pub stands-last : (last front : Option ℕ) (run : Run) → IsUpTo last front → stands front run ≡ true →
     stands last run ≡ true
@@ -52,18 +41,24 @@ stands-last (Some l) None run up s = absurd up
 stands-last (Some l) (Some f) run up s = let less : f < run.first =
     stands-beyond f run s in beyond-stands l run (omega (arith, up))
 
--- the machine's answer is the first run in the order that is deliverable
-pub answer-find : (last front : Option ℕ) (runs : List Run) → Rises first_of runs → is_some front ≡ is_some last →
-    AllByRecursion (λ run. stands last run ≡ true) runs
-    → answer last front runs ≡ find (λ run. is_deliverable front (summary_of run)) runs
-answer-find last front runs rises both all = least-find (is_deliverable_run last front) runs rises
-    ∙ find-same (is_deliverable_run last front) (λ run. is_deliverable front (summary_of run)) runs
-    (all-of (λ run. is_deliverable_run last front run ≡ is_deliverable front (summary_of run)) runs
-    (λ run there. same-test last front run both (all-in (λ r. stands last r ≡ true) runs run all there)))
+-- of runs that stand, the machine's answer is the first in their order that is deliverable by what is told of it
+pub answer-find : (told : Told) (pulled : List Run) (front : Option ℕ) (runs : List Run) → Rises first_of runs →
+    AllByRecursion (λ run. stands (last_pulled pulled) run ≡ true) runs
+    → answer told pulled front runs
+    ≡ find (λ run. is_deliverable (sightings told) (map summary_of pulled) front (summary_of run)) runs
+answer-find told pulled front runs rises all = least-find (is_deliverable_run told pulled front) runs rises
+    ∙ find-same (is_deliverable_run told pulled front)
+    (λ run. is_deliverable (sightings told) (map summary_of pulled) front (summary_of run)) runs
+    (all-of (λ run. is_deliverable_run told pulled front run
+    ≡ is_deliverable (sightings told) (map summary_of pulled) front (summary_of run)) runs
+    (λ run there. ap (λ b. b && is_deliverable (sightings told) (map summary_of pulled) front (summary_of run))
+    (all-in (λ r. stands (last_pulled pulled) r ≡ true) runs run all there)))
 
 -- and it is told as the next of those told
-pub answer-told : (last front : Option ℕ) (runs : List Run) → Rises first_of runs → is_some front ≡ is_some last →
-    AllByRecursion (λ run. stands last run ≡ true) runs
-    → next_of front (map summary_of runs) ≡ option_map summary_of (answer last front runs)
-answer-told last front runs rises both all = find-map summary_of (is_deliverable front) runs
-    ∙ sym (ap (option_map summary_of) (answer-find last front runs rises both all))
+pub answer-told : (told : Told) (pulled : List Run) (front : Option ℕ) (runs : List Run) → Rises first_of runs →
+    AllByRecursion (λ run. stands (last_pulled pulled) run ≡ true) runs
+    → next_of (sightings told) (map summary_of pulled) front (map summary_of runs)
+    ≡ option_map summary_of (answer told pulled front runs)
+answer-told told pulled front runs rises all =
+    find-map summary_of (is_deliverable (sightings told) (map summary_of pulled) front) runs
+    ∙ sym (ap (option_map summary_of) (answer-find told pulled front runs rises all))

@@ -6,7 +6,7 @@ use Rattle.std.specs.List.Sorted.{IsStrictlySortedBy}
 use Rattle.std.specs.Option.{option_map}
 use Rattle.std.proofs.lemmas.Bool.{ltb-true, ltb-false, cases_order}
 use Rattle.std.proofs.lemmas.Grind.{common_steps}
-use Rattle.vrx_core.specs.relation.Order.{put_by}
+use Rattle.vrx_buffer.specs.Order.{put_by}
 
 -- the first of a list is in it
 pub Contains-head : {X : Type 0} (x : X) (xs : List X) → Contains (x ∷ xs) x

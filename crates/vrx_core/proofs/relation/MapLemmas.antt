@@ -6,7 +6,7 @@ use Rattle.std.specs.Option.{option_map}
 use Rattle.std.specs.Ordering.{eq_by_cmp}
 use Rattle.std.specs.Cmp.{nat_cmp_total}
 use Rattle.std.specs.FinMap.{nat_cmp-IsAntisymmetric}
-use Rattle.std.specs.FinMap.Entries.{below_all, by_order, find, is_sorted, is_sorted-put, is_sorted-where_key, put, where_key, find-put, find-where_key}
+use Rattle.std.specs.FinMap.Entries.{below_all, by_order, find, is_sorted, is_sorted-put, is_sorted-where_key, put, where_key, find-put, find-where_key, same_entries}
 use Rattle.std.proofs.lemmas.Bool.{eq-eqb, ne_eqb, true≢false}
 use Rattle.std.proofs.lemmas.Grind.{common_steps}
 use Rattle.vrx_window.specs.Window.{at, is_available}
@@ -73,6 +73,13 @@ module _ {X : Type 0} where
     either : (b : Bool) (o : Option X) → cond b o None ≡ Some x → (b ≡ true) × (o ≡ Some x)
     either true o h = (refl, h)
     either false o h = absurd (true≢false (sym (ap is_some h)))
+
+  -- two maps in order that have the same under each number are one
+  pub same-map : (es fs : List (ℕ × X)) → is_sorted nat_cmp es ≡ true → is_sorted nat_cmp fs ≡ true →
+      ((n : ℕ) → at n es ≡ at n fs) → es ≡ fs
+  same-map es fs a b same =
+      same_entries nat_cmp nat_cmp_total nat_cmp-IsAntisymmetric es fs (true-T (is_sorted nat_cmp es) a)
+      (true-T (is_sorted nat_cmp fs) b) same
 
   -- maps stay in order
   pub sorted_put : (n : ℕ) (x : X) (es : List (ℕ × X)) → is_sorted nat_cmp es ≡ true →

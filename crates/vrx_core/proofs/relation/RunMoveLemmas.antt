@@ -186,6 +186,39 @@ standing-equal are rise codec place passed passed' starts starts' packets packet
     (λ run there. let p = standing-from are codec place passed' starts' packets' run there in
     let q = back run p.0 p.1 in standing-to are codec place passed starts packets run q.0 q.1)
 
+-- if numbers that are available have the same places, the same runs stand
+pub standing-place : RunsAre → RunsRise →
+    (codec : Meaning) (place place' : ℕ → Option Place) (passed : Option ℕ) (starts : Piece → Bool)
+    (packets : Packets)
+    → is_sorted nat_cmp packets ≡ true → ((n : ℕ) → is_available n packets ≡ true → place n ≡ place' n)
+    → standing-by codec place passed starts packets ≡ standing-by codec place' passed starts packets
+standing-place are rise codec place place' passed starts packets sorted same =
+    same-lists (λ (run : Run). run.first) (standing-by codec place passed starts packets)
+    (standing-by codec place' passed starts packets)
+    (standing-rises rise codec place passed starts packets sorted)
+    (standing-rises rise codec place' passed starts packets sorted)
+    (λ run there. let p = standing-from are codec place passed starts packets run there in
+    standing-to are codec place' passed starts packets run (moved-to place place' same run p.0) p.1)
+    (λ run there. let p = standing-from are codec place' passed starts packets run there in
+    standing-to are codec place passed starts packets run
+    (moved-to place' place (λ n here. sym (same n here)) run p.0) p.1) where
+      moved-to : (from to : ℕ → Option Place) → ((n : ℕ) → is_available n packets ≡ true → from n ≡ to n) →
+          (run : Run) → IsRunBy codec from starts packets run → IsRunBy codec to starts packets run
+      moved-to from to alike run r = record {
+        pieces = r.pieces;
+        from_first = r.from_first;
+        to_last = r.to_last;
+        not_empty = r.not_empty;
+        ts = r.ts;
+        start = r.start;
+        marker = r.marker;
+        key = r.key;
+        layers = r.layers
+            ∙ alike run.first
+            (run-available codec from starts packets run run.first r (omega arith) r.not_empty);
+        joins = r.joins;
+      }
+
 -- a run that stands begins beyond the number
 pub stands-beyond : (front : ℕ) (run : Run) → stands (Some front) run ≡ true → front < run.first
 stands-beyond front run h = beyond (nat_le run.first front) refl h where

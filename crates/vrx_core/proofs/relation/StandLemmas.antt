@@ -7,6 +7,7 @@ use Rattle.std.specs.FinMap.Entries.{is_sorted}
 use Rattle.std.proofs.lemmas.Bool.{le-leb, leb-true, true≢false, cases_lt}
 use Rattle.vrx_num.specs.declared.limits.TheConstants.{WINDOW}
 use Rattle.vrx_codec.specs.Meaning.{Meaning}
+use Rattle.vrx_codec.specs.declared.run.Place.{Place}
 use Rattle.vrx_window.specs.Content.{Content, contents}
 use Rattle.vrx_window.specs.Window.{Contents, at, in_window, is_available, is_inside, newest_with, after_placing}
 use Rattle.vrx_window.specs.declared.held.Held.{Held}
@@ -15,7 +16,6 @@ use Rattle.vrx_frames.specs.Front.{is_no_media}
 use Rattle.vrx_frames.specs.IsRun.{IsPiece, IsRunBy, RunsApart, RunsAre, RunsRise}
 use Rattle.vrx_frames.specs.Run.{Packets, Piece, Run, ends_frame, is_start, stands, stands_after_end}
 use Rattle.vrx_frames.specs.declared.shape.Shape.{Shape}
-use Rattle.vrx_core.specs.machine.Standing.{no_layers}
 use Rattle.vrx_core.specs.relation.StandsFor.{shapes_of}
 use Rattle.vrx_core.specs.inside.Step.{lowest_of}
 use Rattle.vrx_core.proofs.relation.ListLemmas.{filter-from, filter-to, rises-filter, same-lists}
@@ -26,12 +26,12 @@ use Rattle.vrx_core.proofs.relation.AddLemmas.{first_of}
 use Rattle.vrx_core.proofs.relation.WindowLemmas.{available-contents, inside-upto, order-window, after_placing-from, after_placing-stays, sorted-contents, sorted-after_placing, told-available, window-order}
 
 -- a run whose first number is media doesn't begin among numbers that are no media
-pub begins-beyond : (codec : Meaning) (starts : Piece → Bool) (packets : Packets) (run : Run) (from to : ℕ) →
-    IsRunBy codec no_layers starts packets run → Over packets from to → from < run.first → to < run.first
-begins-beyond codec starts packets run from to r over beyond = elim (cases_lt to run.first) [
+pub begins-beyond : (codec : Meaning) (place : ℕ → Option Place) (starts : Piece → Bool) (packets : Packets) (run : Run) (from to : ℕ) →
+    IsRunBy codec place starts packets run → Over packets from to → from < run.first → to < run.first
+begins-beyond codec place starts packets run from to r over beyond = elim (cases_lt to run.first) [
   | inl less ↦ less
   | inr upto ↦
-      let p = piece-in codec no_layers starts packets run run.first r (omega arith) r.not_empty in
+      let p = piece-in codec place starts packets run run.first r (omega arith) r.not_empty in
       absurd (none (at run.first packets) refl (over run.first beyond upto) p)
 ] where
   none : (o : Option Content) → at run.first packets ≡ o → IsSomeAnd o (λ content. is_no_media content ≡ true) →
@@ -39,7 +39,7 @@ begins-beyond codec starts packets run from to r over beyond = elim (cases_lt to
   none None is h p = h
   none (Some content) is h p = piece-media codec packets run.first p.piece content p.is is h
 
-module _ (are : RunsAre) (rise : RunsRise) (codec : Meaning) where
+module _ (are : RunsAre) (rise : RunsRise) (codec : Meaning) (place : ℕ → Option Place) where
   -- The runs of what was known, in the new window, are those that stood and begin in it: a packet that came is not
   -- known yet, and what is left is as it was.
   module _ (window : Contents Held) (n : ℕ) (held : Held) (told : List (ℕ × Shape)) (front : Option ℕ)
@@ -90,30 +90,30 @@ module _ (are : RunsAre) (rise : RunsRise) (codec : Meaning) where
     pub standing-left : told ≡ shapes_of codec (contents window.packets) → is_sorted nat_cmp window.packets ≡ true →
         ((m : ℕ) → is_available m window.packets ≡ true → is_inside window.newest m ≡ true)
         → is_available n window.packets ≡ false
-        → filter (λ run. nat_le lowest run.first) (standing-by codec no_layers front starts (contents window.packets))
-        ≡ standing-by codec no_layers front starts (packets_under told now)
+        → filter (λ run. nat_le lowest run.first) (standing-by codec place front starts (contents window.packets))
+        ≡ standing-by codec place front starts (packets_under told now)
     standing-left told_is sorted inside missing =
         same-lists first_of (filter (λ run. nat_le lowest run.first)
-        (standing-by codec no_layers front starts (contents window.packets)))
-        (standing-by codec no_layers front starts (packets_under told now))
+        (standing-by codec place front starts (contents window.packets)))
+        (standing-by codec place front starts (packets_under told now))
         (rises-filter first_of (λ run. nat_le lowest run.first)
-        (standing-by codec no_layers front starts (contents window.packets))
-        (standing-rises rise codec no_layers front starts (contents window.packets)
+        (standing-by codec place front starts (contents window.packets))
+        (standing-rises rise codec place front starts (contents window.packets)
         (sorted-contents window.packets sorted)))
-        (standing-rises rise codec no_layers front starts (packets_under told now)
+        (standing-rises rise codec place front starts (packets_under told now)
         (sorted_where (λ k. is_available k told) now (sorted-after_placing window n held sorted)))
         to back where
           to : (run : Run) → Contains
               (filter (λ run. nat_le lowest run.first)
-              (standing-by codec no_layers front starts (contents window.packets))) run →
-              Contains (standing-by codec no_layers front starts (packets_under told now)) run
+              (standing-by codec place front starts (contents window.packets))) run →
+              Contains (standing-by codec place front starts (packets_under told now)) run
           to run there =
               let p = filter-from (λ run. nat_le lowest run.first)
-              (standing-by codec no_layers front starts (contents window.packets)) run there in
-              let q = standing-from are codec no_layers front starts (contents window.packets) run p.0 in
+              (standing-by codec place front starts (contents window.packets)) run there in
+              let q = standing-from are codec place front starts (contents window.packets) run p.0 in
               let low : lowest ≤ run.first = leb-true lowest run.first p.1 in
-              standing-to are codec no_layers front starts (packets_under told now) run
-              (run-moves codec no_layers starts starts (contents window.packets) (packets_under told now) run q.0
+              standing-to are codec place front starts (packets_under told now) run
+              (run-moves codec place starts starts (contents window.packets) (packets_under told now) run q.0
               (λ m piece from upto is. (
                 piece-moves codec (contents window.packets) (packets_under told now) m piece
                     (stays told_is inside missing m (ap is_some is.media) (omega arith)) is,
@@ -121,19 +121,19 @@ module _ (are : RunsAre) (rise : RunsRise) (codec : Meaning) where
               )))
               q.1
 
-          back : (run : Run) → Contains (standing-by codec no_layers front starts (packets_under told now)) run →
+          back : (run : Run) → Contains (standing-by codec place front starts (packets_under told now)) run →
               Contains (filter (λ run. nat_le lowest run.first)
-              (standing-by codec no_layers front starts (contents window.packets))) run
+              (standing-by codec place front starts (contents window.packets))) run
           back run there =
-              let q = standing-from are codec no_layers front starts (packets_under told now) run there in
+              let q = standing-from are codec place front starts (packets_under told now) run there in
               let first_there : is_available run.first (packets_under told now) ≡ true =
-              run-available codec no_layers starts (packets_under told now) run run.first q.0 (omega arith)
+              run-available codec place starts (packets_under told now) run run.first q.0 (omega arith)
               (q.0).not_empty in
               let low : lowest ≤ run.first = (was told_is missing run.first first_there).1 in
               filter-to (λ run. nat_le lowest run.first)
-              (standing-by codec no_layers front starts (contents window.packets)) run
-              (standing-to are codec no_layers front starts (contents window.packets) run
-              (run-moves codec no_layers starts starts (packets_under told now) (contents window.packets) run q.0
+              (standing-by codec place front starts (contents window.packets)) run
+              (standing-to are codec place front starts (contents window.packets) run
+              (run-moves codec place starts starts (packets_under told now) (contents window.packets) run q.0
               (λ m piece from upto is. let w = was told_is missing m (ap is_some is.media) in (
                 piece-moves codec (packets_under told now) (contents window.packets) m piece
                     (sym (stays told_is inside missing m w.0 w.1)) is,
@@ -146,27 +146,27 @@ module _ (are : RunsAre) (rise : RunsRise) (codec : Meaning) where
     -- once the front went on over numbers that are no media, the same runs stand
     pub standing-goes : (front : ℕ) (after : Option ℕ) → is_sorted nat_cmp packets ≡ true →
         ((m : ℕ) → stands_after_end m packets ≡ true → began m ≡ true) → GoesOn packets front after
-        → standing-by codec no_layers (Some front) (is_start (Some front) began) packets
-        ≡ standing-by codec no_layers after (is_start after began) packets
+        → standing-by codec place (Some front) (is_start (Some front) began) packets
+        ≡ standing-by codec place after (is_start after began) packets
     standing-goes front after sorted behind g =
-        standing-equal are rise codec no_layers (Some front) (Some g.front) (is_start (Some front) began)
+        standing-equal are rise codec place (Some front) (Some g.front) (is_start (Some front) began)
         (is_start (Some g.front) began) packets packets sorted sorted
         (λ run r s. let beyond : g.front < run.first =
-        begins-beyond codec (is_start (Some front) began) packets run front g.front r g.over
+        begins-beyond codec place (is_start (Some front) began) packets run front g.front r g.over
         (stands-beyond front run s) in (
-          run-moves codec no_layers (is_start (Some front) began)
+          run-moves codec place (is_start (Some front) began)
               (is_start (Some g.front) began) packets packets run r
               (λ m piece from upto is. (is, same m piece (omega arith) is)),
           beyond-stands g.front run beyond,
         ))
         (λ run r s. let beyond : g.front < run.first = stands-beyond g.front run s in let less : front ≤ g.front =
         g.upto in (
-          run-moves codec no_layers (is_start (Some g.front) began)
+          run-moves codec place (is_start (Some g.front) began)
               (is_start (Some front) began) packets packets run r
               (λ m piece from upto is. (is, sym (same m piece (omega arith) is))),
           beyond-stands front run (omega arith),
         ))
-        ∙ ap (λ o. standing-by codec no_layers o (is_start o began) packets) (sym g.front_is) where
+        ∙ ap (λ o. standing-by codec place o (is_start o began) packets) (sym g.front_is) where
           ends : (Some front ≡ Some g.front) ⊎ (option_map_or ends_frame (at g.front packets) false ≡ true)
           ends = elim (goes-ends packets front after g) [ inl same ↦ inl (ap Some same) | inr end ↦ inr end ]
 
@@ -178,23 +178,23 @@ module _ (are : RunsAre) (rise : RunsRise) (codec : Meaning) where
     -- once a run is handed out, the runs that begin after it stand
     pub standing-pulled : RunsApart → (before after : Option ℕ) (run : Run) → is_sorted nat_cmp packets ≡ true →
         ((m : ℕ) → stands_after_end m packets ≡ true → began m ≡ true)
-        → Contains (standing-by codec no_layers before (is_start before began) packets) run →
+        → Contains (standing-by codec place before (is_start before began) packets) run →
         GoesOn packets run.last after
         → filter (λ other. nat_le (run.first + 1) other.first)
-        (standing-by codec no_layers before (is_start before began) packets) ≡ standing-by codec no_layers after
+        (standing-by codec place before (is_start before began) packets) ≡ standing-by codec place after
         (is_start after began) packets
     standing-pulled apart before after run sorted behind there g =
         same-lists first_of (filter (λ other. nat_le (run.first + 1) other.first)
-        (standing-by codec no_layers before (is_start before began) packets))
-        (standing-by codec no_layers (Some g.front) (is_start (Some g.front) began) packets)
+        (standing-by codec place before (is_start before began) packets))
+        (standing-by codec place (Some g.front) (is_start (Some g.front) began) packets)
         (rises-filter first_of (λ other. nat_le (run.first + 1) other.first)
-        (standing-by codec no_layers before (is_start before began) packets)
-        (standing-rises rise codec no_layers before (is_start before began) packets sorted))
-        (standing-rises rise codec no_layers (Some g.front) (is_start (Some g.front) began) packets sorted)
+        (standing-by codec place before (is_start before began) packets)
+        (standing-rises rise codec place before (is_start before began) packets sorted))
+        (standing-rises rise codec place (Some g.front) (is_start (Some g.front) began) packets sorted)
         to back
-        ∙ ap (λ o. standing-by codec no_layers o (is_start o began) packets) (sym g.front_is) where
-          itself : IsRunBy codec no_layers (is_start before began) packets run × (stands before run ≡ true)
-          itself = standing-from are codec no_layers before (is_start before began) packets run there
+        ∙ ap (λ o. standing-by codec place o (is_start o began) packets) (sym g.front_is) where
+          itself : IsRunBy codec place (is_start before began) packets run × (stands before run ≡ true)
+          itself = standing-from are codec place before (is_start before began) packets run there
 
           within : run.first ≤ run.last
           within = (itself.0).not_empty
@@ -210,7 +210,7 @@ module _ (are : RunsAre) (rise : RunsRise) (codec : Meaning) where
           ends : (before ≡ Some g.front) ⊎ (option_map_or ends_frame (at g.front packets) false ≡ true)
           ends = elim (goes-ends packets run.last after g) [
             | inl same ↦ inr (subst (λ k. option_map_or ends_frame (at k packets) false ≡ true) same
-                (last-ends codec no_layers (is_start before began) packets run itself.0))
+                (last-ends codec place (is_start before began) packets run itself.0))
             | inr end ↦ inr end
           ]
 
@@ -227,43 +227,43 @@ module _ (are : RunsAre) (rise : RunsRise) (codec : Meaning) where
 
           to : (other : Run) → Contains
               (filter (λ other. nat_le (run.first + 1) other.first)
-              (standing-by codec no_layers before (is_start before began) packets)) other →
-              Contains (standing-by codec no_layers (Some g.front) (is_start (Some g.front) began) packets) other
+              (standing-by codec place before (is_start before began) packets)) other →
+              Contains (standing-by codec place (Some g.front) (is_start (Some g.front) began) packets) other
           to other c =
               let p = filter-from (λ other. nat_le (run.first + 1) other.first)
-              (standing-by codec no_layers before (is_start before began) packets) other c in
-              let q = standing-from are codec no_layers before (is_start before began) packets other p.0 in
+              (standing-by codec place before (is_start before began) packets) other c in
+              let q = standing-from are codec place before (is_start before began) packets other p.0 in
               let later : run.first + 1 ≤ other.first = leb-true (run.first + 1) other.first p.1 in
               let past : run.last < other.first = elim (cases_lt run.last other.first) [
                 | inl less ↦ less
                 | inr inner ↦
                     let r' = q.0 in let some : other.first ≤ other.last = r'.not_empty in
-                    let one : run ≡ other = apart codec no_layers
+                    let one : run ≡ other = apart codec place
                     (is_start before began) packets run other other.first itself.0 q.0 (omega arith, inner)
                     (omega arith, some) in
                     let e : run.first ≡ other.first = ap first_of one in absurd (omega arith)
               ] in
               let beyond : g.front < other.first =
-              begins-beyond codec (is_start before began) packets other run.last g.front q.0 g.over past in
-              standing-to are codec no_layers (Some g.front) (is_start (Some g.front) began) packets other
-              (run-moves codec no_layers (is_start before began)
+              begins-beyond codec place (is_start before began) packets other run.last g.front q.0 g.over past in
+              standing-to are codec place (Some g.front) (is_start (Some g.front) began) packets other
+              (run-moves codec place (is_start before began)
               (is_start (Some g.front) began) packets packets other q.0
               (λ m piece from upto is. (is, same m piece (omega arith) is)))
               (beyond-stands g.front other beyond)
 
           back : (other : Run) → Contains
-              (standing-by codec no_layers (Some g.front) (is_start (Some g.front) began) packets) other →
+              (standing-by codec place (Some g.front) (is_start (Some g.front) began) packets) other →
               Contains (filter (λ other. nat_le (run.first + 1) other.first)
-              (standing-by codec no_layers before (is_start before began) packets)) other
+              (standing-by codec place before (is_start before began) packets)) other
           back other c =
               let q =
-              standing-from are codec no_layers (Some g.front) (is_start (Some g.front) began) packets other c in
+              standing-from are codec place (Some g.front) (is_start (Some g.front) began) packets other c in
               let beyond : g.front < other.first = stands-beyond g.front other q.1 in
               let less : run.first < other.first = omega (arith, within, reach, beyond) in
               filter-to (λ other. nat_le (run.first + 1) other.first)
-              (standing-by codec no_layers before (is_start before began) packets) other
-              (standing-to are codec no_layers before (is_start before began) packets other
-              (run-moves codec no_layers (is_start (Some g.front) began)
+              (standing-by codec place before (is_start before began) packets) other
+              (standing-to are codec place before (is_start before began) packets other
+              (run-moves codec place (is_start (Some g.front) began)
               (is_start before began) packets packets other q.0
               (λ m piece from upto is. (is, sym (same m piece (omega arith) is))))
               (stands-by before other itself.1 less))

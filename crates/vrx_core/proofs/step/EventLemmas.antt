@@ -1,25 +1,26 @@
 -- One event over the engine's parts, beside the machine.
-use Rattle.std.proofs.Common.{◌≡◌, ℕ, ◌+◌, ◌*◌, ◌<◌, ◌≤◌, max, List, [], ◌∷◌, length, Option, Some, None, IfSome, Result, Ok, Err, refl, sym, subst, ap, ◌∙◌, arith, option_map}
+use Rattle.std.proofs.Common.{◌≡◌, ℕ, ◌+◌, ◌*◌, ◌≤◌, max, List, [], ◌∷◌, map, length, Option, Some, None, IfSome, Result, Ok, Err, refl, sym, subst, ap, ◌∙◌, arith, option_map}
 use Rattle.std.specs.Prelude.{◌↔◌, IsErr}
 use Rattle.std.proofs.lemmas.Bool.{false≢true}
 use Rattle.std.proofs.lemmas.Option.{none-some, same_Some}
-use Rattle.vrx_num.specs.declared.limits.TheConstants.{HALF_SPACE, MOST_EVENTS}
+use Rattle.vrx_num.specs.declared.limits.TheConstants.{HALF_SPACE}
 use Rattle.vrx_codec.specs.Meaning.{Meaning}
 use Rattle.vrx_codec.specs.declared.run.Run.{Run as RunSummary}
 use Rattle.vrx_window.specs.Content.{Content, contents_of}
+use Rattle.vrx_window.specs.Sound.{place_at}
 use Rattle.vrx_window.specs.Window.{Contents, after_giving_up}
 use Rattle.vrx_window.specs.declared.held.Held.{Held}
 use Rattle.vrx_frames.specs.IsRun.{RunsApart, RunsAre, RunsRise}
-use Rattle.vrx_frames.specs.Front.{front_after}
-use Rattle.vrx_frames.specs.Run.{Run}
+use Rattle.vrx_frames.specs.Run.{Run, summary_of}
 use Rattle.vrx_core.specs.machine.Answers.{AnswersHold, IsLeastDeliverable, NoneDeliverable}
 use Rattle.vrx_core.specs.machine.History.{now}
 use Rattle.vrx_core.specs.machine.Snapshot.{moved}
-use Rattle.vrx_core.specs.machine.Machine.{IfFrame, ToPull, Snapshot, after_datagram, after_pull, after_tick, frame_of, last_pulled, latest, next, next_run, pulled_of, reply, snapshots, what_of, with_numbers}
+use Rattle.vrx_core.specs.machine.Machine.{IfFrame, ToPull, Snapshot, after_datagram, after_pull, after_tick, frame_of, latest, next, next_run, pulled_of, reply, snapshots, source_in, what_of, with_numbers}
 use Rattle.vrx_core.specs.machine.Verdict.{verdict}
-use Rattle.vrx_core.specs.relation.Frames.{next_of, runs_from}
+use Rattle.vrx_buffer.specs.Frames.{next_of}
+use Rattle.vrx_core.specs.machine.Told.{sightings}
 use Rattle.vrx_core.specs.relation.StandsFor.{Assembly, IsAssembled, StandsIn}
-use Rattle.vrx_core.specs.inside.Step.{IsPulledAs, after_counting, packets_of}
+use Rattle.vrx_core.specs.inside.Step.{after_counting}
 use Rattle.vrx_core.specs.inside.Fields.{ComesOf, ComesOfPull, IsHandedOut, IsHandled, IsWhole}
 use Rattle.vrx_core.specs.declared.settings.Settings.{Settings}
 use Rattle.vrx_core.specs.declared.event.Event.{Event}
@@ -32,8 +33,8 @@ use Rattle.vrx_core.specs.inside.Wants.{given_up_all}
 use Rattle.vrx_core.specs.declared.assembler.Arrival.{Arrival}
 use Rattle.vrx_core.specs.declared.assembler.Outcome.{Outcome}
 use Rattle.vrx_core.proofs.machine.MachineLemmas.{snapshots-cons, reply-is}
-use Rattle.vrx_core.proofs.relation.KeptLemmas.{kept-pulled}
-use Rattle.vrx_core.proofs.relation.PastLemmas.{IsNext, stands-after_counting, stands-none, stands-pulled, stands-taken}
+use Rattle.vrx_core.proofs.step.FieldLemmas.{given-up-is}
+use Rattle.vrx_core.proofs.relation.PastLemmas.{IsNext, next-told, stands-after_counting, stands-none, stands-pulled, stands-taken}
 
 -- parts stand for a history with one event more, if they count it and stand in its past
 stands-on : (codec : Meaning) (before after : Assembly) (h : List Event) (e : Event) (moment : ℕ) →
@@ -127,7 +128,13 @@ tick-stands codec before after moment lost h is lost_is stands =
       window = contents-given-up lost before.window
           ∙ ap (λ (w : Contents Content). record w { dead = with_numbers lost w.dead }) stands.stands.window
           ∙ ap (λ ns. record (latest past).window { dead = with_numbers ns (latest past).window.dead }) lost_is;
+      places = record {
+        newest = counts.places.newest;
+        places = λ n there. ap (λ (w : Contents Held). place_at w.packets n) (given-up-is lost before.window)
+            ∙ counts.places.places n there;
+      };
       known = record { arrivals = counts.known.arrivals; began = counts.known.began };
+      finder = counts.finder;
       frames = counts.frames;
       last_pulled = counts.last_pulled;
       front = counts.front;
@@ -147,7 +154,7 @@ pull-settings-by codec before after moment frame (Some told) comes = comes.3.set
 pub pull-settings : (codec : Meaning) (before after : Assembly) (moment : ℕ) (frame : Option Frame) →
     IsHandedOut codec before after moment frame → after.settings ≡ before.settings
 pull-settings codec before after moment frame handed =
-    pull-settings-by codec before after moment frame (next_of before.front before.frames) handed
+    pull-settings-by codec before after moment frame handed.run handed.comes
 
 pull-counts-by : (codec : Meaning) (before after : Assembly) (moment : ℕ) (frame : Option Frame)
     (o : Option RunSummary) → ComesOfPull codec before after moment frame o →
@@ -160,7 +167,7 @@ pub pull-counts : (codec : Meaning) (before after : Assembly) (moment : ℕ) (fr
     IsHandedOut codec before after moment frame →
     (after.events ≡ before.events + 1) × (after.clock ≡ max before.clock moment)
 pull-counts codec before after moment frame handed =
-    pull-counts-by codec before after moment frame (next_of before.front before.frames) handed
+    pull-counts-by codec before after moment frame handed.run handed.comes
 
 -- a pull leaves the window
 pull-window-by : (codec : Meaning) (before after : Assembly) (moment : ℕ) (frame : Option Frame)
@@ -171,7 +178,7 @@ pull-window-by codec before after moment frame (Some told) comes = comes.3.windo
 pub pull-window : (codec : Meaning) (before after : Assembly) (moment : ℕ) (frame : Option Frame) →
     IsHandedOut codec before after moment frame → after.window ≡ before.window
 pull-window codec before after moment frame handed =
-    pull-window-by codec before after moment frame (next_of before.front before.frames) handed
+    pull-window-by codec before after moment frame handed.run handed.comes
 
 -- a pull's answer, by the frame that is given
 abbrev pub pulled_by : Option Frame → Pulled
@@ -197,22 +204,25 @@ pull-reply-by settings codec after moment frame h pull =
     ∙ sym (reply-is settings codec h (Pull moment))
 
 module _ (are : RunsAre) (rise : RunsRise) where
-  comes-stands : (settings : Settings) (codec : Meaning) (h : List Event) (before after : Assembly) (moment : ℕ)
+  comes-stands : (codec : Meaning) (h : List Event) (before after : Assembly) (moment : ℕ)
       (arrival : Option Arrival) (v : Result (ℕ × Content) NotTaken) → ComesOf codec before after moment arrival v →
       IsWhole codec before → IsWhole codec after
-      → StandsIn codec before (snapshots settings codec h) →
-      StandsIn codec after (after_datagram codec (snapshots settings codec h) moment v ∷ snapshots settings codec h)
-  comes-stands settings codec h before after moment arrival (Err left) comes whole whole' stands =
-      subst (λ p. StandsIn codec p (moved (latest (snapshots settings codec h)) moment ∷ snapshots settings codec h))
-      (sym comes.1) (stands-after_counting codec before (snapshots settings codec h) moment stands)
-  comes-stands settings codec h before after moment arrival (Ok (n, content)) comes whole whole' stands =
+      → StandsIn codec before (snapshots before.settings codec h) →
+      StandsIn codec after (after_datagram (source_in before.settings codec) (snapshots before.settings codec h) moment v
+      ∷ snapshots before.settings codec h)
+  comes-stands codec h before after moment arrival (Err left) comes whole whole' stands =
+      subst (λ p. StandsIn codec p (moved (latest (snapshots before.settings codec h)) moment
+      ∷ snapshots before.settings codec h))
+      (sym comes.1) (stands-after_counting codec before (snapshots before.settings codec h) moment stands)
+  comes-stands codec h before after moment arrival (Ok (n, content)) comes whole whole' stands =
       let t = comes.2 in
       subst (λ (c : Content). StandsIn codec after
-      (after_datagram codec (snapshots settings codec h) moment (Ok (n, c)) ∷ snapshots settings codec h))
+      (after_datagram (source_in before.settings codec) (snapshots before.settings codec h) moment (Ok (n, c))
+      ∷ snapshots before.settings codec h))
       t.content_is
-      (stands-taken are rise settings codec h before after n t.held moment stands whole.kept whole.window.packets_rise
-      whole.window.packets_inside t.may.fresh t.taken whole'.kept whole'.window.packets_rise
-      whole'.window.packets_inside)
+      (stands-taken are rise before.settings codec h before after n t.held t.made moment stands whole.kept
+      whole.window.packets_rise whole.window.packets_inside t.may.fresh t.may.sound t.may.placed t.planned t.taken
+      whole'.kept whole'.window.packets_rise whole'.window.packets_inside)
 
   pub datagram-stands : (codec : Meaning) (before after : Assembly) (moment : ℕ) (octets : List ℕ) (outcome : Outcome)
       (h : List Event) → IsHandled codec before after moment octets outcome → IsWhole codec before →
@@ -225,14 +235,17 @@ module _ (are : RunsAre) (rise : RunsRise) where
       (datagram-settings codec before after moment octets outcome handled) count.0
       (count.1 ∙ ap (λ k. max k moment) stands.clock)
       (subst (λ (w : Contents Content).
-      StandsIn codec after (after_datagram codec past moment (verdict before.settings codec w octets) ∷ past))
+      StandsIn codec after (after_datagram (source_in before.settings codec) past moment
+      (verdict before.settings codec w octets) ∷ past))
       stands.stands.window
-      (comes-stands before.settings codec h before after moment outcome.arrival
+      (comes-stands codec h before after moment outcome.arrival
       (verdict before.settings codec (contents_of before.window) octets) handled.comes whole whole' stands.stands))
 
   module _ (apart : RunsApart) where
     pull-by : (settings : Settings) (codec : Meaning) (h : List Event) (before after : Assembly) (moment : ℕ)
-        (frame : Option Frame) (o : Option RunSummary) → next_of before.front before.frames ≡ o →
+        (frame : Option Frame) (o : Option RunSummary) →
+        next_of (sightings (latest (snapshots settings codec h)).told)
+        (map summary_of (latest (snapshots settings codec h)).pulled) before.front before.frames ≡ o →
         ComesOfPull codec before after moment frame o
         → IsWhole codec before → IsWhole codec after → StandsIn codec before (snapshots settings codec h) →
         IsPull codec after (snapshots settings codec h) moment frame
@@ -264,8 +277,10 @@ module _ (are : RunsAre) (rise : RunsRise) where
         IsAssembled codec before h
         → IsPull codec after (snapshots before.settings codec h) moment frame
     pull-is codec before after moment frame h handed whole whole' stands =
-        pull-by before.settings codec h before after moment frame
-        (next_of before.front before.frames) refl handed whole whole' stands.stands
+        let s : Snapshot = latest (snapshots before.settings codec h) in
+        pull-by before.settings codec h before after moment frame handed.run
+        (sym (handed.is_next.next (sightings s.told) (map summary_of s.pulled) stands.stands.finder)) handed.comes
+        whole whole' stands.stands
 
     pub pull-stands : (codec : Meaning) (before after : Assembly) (moment : ℕ) (frame : Option Frame)
         (h : List Event) → IsHandedOut codec before after moment frame → IsWhole codec before → IsWhole codec after →
@@ -289,46 +304,19 @@ module _ (are : RunsAre) (rise : RunsRise) where
 
     -- if the next reply is that no frame is ready, no run is next
     pub pull-none : (codec : Meaning) (parts : Assembly) (moment : ℕ) (h : List Event) → IsWhole codec parts →
-        parts.events < MOST_EVENTS → IsAssembled codec parts h
-        → reply parts.settings codec h (Pull moment) ≡ ToPull pulls.NotReady → next_of parts.front parts.frames ≡ None
-    pull-none codec parts moment h whole room stands is = by-cases (next_of parts.front parts.frames) refl where
-      past : List Snapshot
-      past = snapshots parts.settings codec h
-
-      after : RunSummary → Assembly
-      after told = record {
-        settings = parts.settings;
-        events = parts.events + 1;
-        clock = parts.clock;
-        window = parts.window;
-        known = parts.known;
-        frames = runs_from (told.first + 1) parts.frames;
-        last_pulled = Some told.last;
-        front = front_after parts.front (Some told.last) (packets_of parts);
-      }
-
-      pulled : (told : RunSummary) → IsPulledAs parts (after told) told
-      pulled told =
-          record { settings = refl; window = refl; known = refl; frames = refl; last_pulled = refl; front = refl }
-
-      next-is : (told : RunSummary) → next_of parts.front parts.frames ≡ Some told →
-          IsNext codec parts (after told) past moment told
-      next-is told due = stands-pulled are rise parts.settings codec h apart parts
-          (after told) told moment stands.stands whole.kept whole.window.packets_rise whole.window.packets_inside due
-          (pulled told)
-          (kept-pulled are rise apart codec parts
-          (after told) told whole.kept whole.window.packets_rise whole.window.packets_inside due (pulled told) refl
-          (omega arith))
-
-      ready : (run : Run) → ToPull (pulls.Frame (frame_of run)) ≡ ToPull pulls.NotReady → ⊥
-      ready run e = cc
-
-      by-cases : (o : Option RunSummary) → next_of parts.front parts.frames ≡ o → o ≡ None
-      by-cases None due = refl
-      by-cases (Some told) due =
-          let found : IsNext codec parts (after told) past moment told = next-is told due in
-          absurd (ready found.run (sym (ap (λ o. ToPull (pulled_of o)) found.next_is)
-          ∙ sym (reply-is parts.settings codec h (Pull moment)) ∙ is))
+        IsAssembled codec parts h → reply parts.settings codec h (Pull moment) ≡ ToPull pulls.NotReady →
+        next_of (sightings (latest (snapshots parts.settings codec h)).told)
+        (map summary_of (latest (snapshots parts.settings codec h)).pulled) parts.front parts.frames ≡ None
+    pull-none codec parts moment h whole stands is =
+        (next-told are rise parts.settings codec h parts stands.stands whole.kept whole.window.packets_rise
+        whole.window.packets_inside).0
+        ∙ ap (option_map summary_of) (by (next_run (latest (snapshots parts.settings codec h)))
+        (sym (reply-is parts.settings codec h (Pull moment)) ∙ is)) where
+          by : (o : Option Run) → ToPull (pulled_of o) ≡ ToPull pulls.NotReady → o ≡ None
+          by None e = refl
+          by (Some run) e = absurd (ready run e) where
+            ready : (run : Run) → ToPull (pulls.Frame (frame_of run)) ≡ ToPull pulls.NotReady → ⊥
+            ready run e = cc
 
     module _ (answers : AnswersHold) where
       -- no frame comes exactly if no run that stands is deliverable
@@ -336,12 +324,12 @@ module _ (are : RunsAre) (rise : RunsRise) where
           (h : List Event) → IsHandedOut codec before after moment frame → IsWhole codec before →
           IsWhole codec after → IsAssembled codec before h
           → let s : Snapshot = latest (snapshots before.settings codec h) in
-          (pulled_by frame ≡ pulls.NotReady) ↔ NoneDeliverable (last_pulled s.pulled) s.front s.standing
+          (pulled_by frame ≡ pulls.NotReady) ↔ NoneDeliverable s.told s.pulled s.front s.standing
       pull-exactly codec before after moment frame h handed whole whole' stands =
           let s : Snapshot = latest (snapshots before.settings codec h) in
           let pull : IsPull codec after (snapshots before.settings codec h) moment frame =
           pull-is codec before after moment frame h handed whole whole' stands in
-          let law = (answers (last_pulled s.pulled) s.front s.standing).none in (
+          let law = (answers s.told s.pulled s.front s.standing).none in (
             λ e. law.0 (none-of (next_run s) frame pull.frame_is e),
             λ none.
                 ap pulled_by (pull.frame_is ∙ ap (option_map frame_of) (law.1 none)),
@@ -359,16 +347,16 @@ module _ (are : RunsAre) (rise : RunsRise) where
           IsWhole codec after → IsAssembled codec before h
           → let s : Snapshot = latest (snapshots before.settings codec h) in
           IfFrame (pulled_by frame)
-          (λ f. (run : Run) × IsLeastDeliverable (last_pulled s.pulled) s.front s.standing run × (f ≡ frame_of run))
+          (λ f. (run : Run) × IsLeastDeliverable s.told s.pulled s.front s.standing run × (f ≡ frame_of run))
       pull-frame codec before after moment frame h handed whole whole' stands =
           let s : Snapshot = latest (snapshots before.settings codec h) in
           let pull : IsPull codec after (snapshots before.settings codec h) moment frame =
           pull-is codec before after moment frame h handed whole whole' stands in
-          least-of s (next_run s) frame pull.frame_is (answers (last_pulled s.pulled) s.front s.standing).some where
+          least-of s (next_run s) frame pull.frame_is (answers s.told s.pulled s.front s.standing).some where
             least-of : (s : Snapshot) (o : Option Run) (f : Option Frame) → f ≡ option_map frame_of o →
-                IfSome o (λ run. IsLeastDeliverable (last_pulled s.pulled) s.front s.standing run)
+                IfSome o (λ run. IsLeastDeliverable s.told s.pulled s.front s.standing run)
                 → IfFrame (pulled_by f) (λ f. (run : Run)
-                × IsLeastDeliverable (last_pulled s.pulled) s.front s.standing run × (f ≡ frame_of run))
+                × IsLeastDeliverable s.told s.pulled s.front s.standing run × (f ≡ frame_of run))
             least-of s o None is least = tt
             least-of s None (Some f) is least = absurd (none-some f (sym is))
             least-of s (Some run) (Some f) is least = (run, least, same_Some f (frame_of run) is)

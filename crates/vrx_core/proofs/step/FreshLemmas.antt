@@ -11,7 +11,7 @@ use Rattle.std.proofs.lemmas.List.Elements.{All-from_recursion, Contains-get_or,
 use Rattle.std.proofs.lemmas.Map.Keys.{IsStrictlyIncreasing-from_sorted}
 use Rattle.vrx_rtcp.specs.declared.types.TheConstants.{NACK_SPAN}
 use Rattle.vrx_num.specs.declared.limits.TheConstants.{WINDOW}
-use Rattle.vrx_asks.specs.Asks.{ask_after, asked_numbers, asks_left, given_up_numbers, is_asked, is_given_up, is_near, numbers, with_missing}
+use Rattle.vrx_asks.specs.Asks.{ask_after, asked_numbers, asks_left, given_up_numbers, is_asked, is_given_up, is_near, numbers, with_missing, without}
 use Rattle.vrx_asks.specs.IsAsks.{IsAsks}
 use Rattle.vrx_asks.specs.declared.ask.Ask.{Ask}
 use Rattle.vrx_window.specs.IsWindow.{IsWindow}
@@ -19,7 +19,7 @@ use Rattle.vrx_window.specs.Window.{Contents, at, after_giving_up, in_window, is
 use Rattle.vrx_window.specs.declared.held.Held.{Held}
 use Rattle.vrx_window.specs.declared.placing.Placing.TheVariants.{TooOld, Dead, Repeat, Fresh}
 use Rattle.vrx_frames.specs.Completed.{is_among}
-use Rattle.vrx_core.specs.inside.Wants.{AreBelow, AreFresh, AreNear, CanGiveUpAll, asks_taken, beyond_front, gap_from, gap_of, given_up_all, with_all_missing}
+use Rattle.vrx_core.specs.inside.Wants.{AreBelow, AreFresh, AreNear, CanGiveUpAll, asks_taken, beyond_front, gap_from, gap_of, given_up_all, with_all_missing, without_all}
 use Rattle.vrx_core.specs.declared.assembler.Arrival.{Arrival}
 use Rattle.vrx_core.proofs.relation.ListLemmas.{Contains-either, Contains-empty, Contains-head, Contains-tail, Rises, all-in, all-of, filter-from, map-from, one-with, rises-filter, rises-map}
 use Rattle.vrx_core.proofs.relation.MapLemmas.{at_put-other, at_where, none-of}
@@ -179,24 +179,16 @@ missing-either now (n ∷ ns) asks a c = elim (missing-either now ns (with_missi
 ]
 
 -- the missing numbers are fresh once a packet was placed
-pub fresh-taken : (window : Contents Held) (n : ℕ) (held : Held) (a : Arrival) (now : ℕ) (front : Option ℕ)
-    (asks : List Ask) → IsWindow window → a.number ≡ n → a.newest ≡ window.newest → AreFresh window asks
-    → AreFresh (after_placing n held window) (asks_taken now a front asks)
-fresh-taken window n held a now front asks is number_is newest_is fresh =
-    subst (AreFresh (after_placing n held window)) (sym asks_are)
-    (fresh-all (after_placing n held window) after each) where
+fresh-placed : (window : Contents Held) (n : ℕ) (held : Held) (now : ℕ) (front : Option ℕ) (asks : List Ask) →
+    IsWindow window → AreFresh window asks → AreFresh (after_placing n held window)
+    (with_all_missing now (gap_of window.newest n)
+    (left_after front (newest_with window.newest n - WINDOW) n asks))
+fresh-placed window n held now front asks is fresh =
+    fresh-all (after_placing n held window) after each where
       after : List Ask
       after =
           with_all_missing now (gap_of window.newest n)
           (left_after front (newest_with window.newest n - WINDOW) n asks)
-
-      asks_are : asks_taken now a front asks ≡ with_all_missing now (gap_of window.newest n)
-          (left_after front (newest_with window.newest n - WINDOW) n asks)
-      asks_are = ap (λ (o : Option ℕ).
-          with_all_missing now (gap_of o a.number) (left_after front (newest_with o a.number - WINDOW) a.number asks))
-          newest_is
-          ∙ ap (λ (k : ℕ). with_all_missing now (gap_of window.newest k)
-          (left_after front (newest_with window.newest k - WINDOW) k asks)) number_is
 
       each : (ask : Ask) → Contains
           (with_all_missing now (gap_of window.newest n)
@@ -207,6 +199,68 @@ fresh-taken window n held a now front asks is number_is newest_is fresh =
             | inl left ↦ left-fresh window n held front asks ask fresh left
             | inr gap ↦ gap-fresh window n held ask.number is gap
           ]
+
+-- what is left without some numbers was there, and has none of these numbers
+without-from : (ns : List ℕ) (asks : List Ask) (a : Ask) → Contains (without_all ns asks) a →
+    Contains asks a × (is_among ns a.number ≡ false)
+without-from [] asks a c = (c, refl)
+without-from (n ∷ ns) asks a c =
+    let rest : Contains (without n asks) a × (is_among ns a.number ≡ false) = without-from ns (without n asks) a c in
+    let here : Contains asks a × (not (a.number == n) ≡ true) =
+    filter-from (λ ask. not (ask.number == n)) asks a rest.0 in
+    (here.0, ap (λ b. b || is_among ns a.number) (not-true (a.number == n) here.1) ∙ rest.1)
+
+-- a window with more packets than another, under these numbers: a number that is fresh in that and isn't one of them is
+-- fresh here
+more-fresh : (window more : Contents Held) (repaired : List ℕ) (k : ℕ) → more.newest ≡ window.newest →
+    more.dead ≡ window.dead
+    → ((m : ℕ) → is_available m more.packets ≡ true → is_among repaired m ≡ false →
+    is_available m window.packets ≡ true)
+    → is_among repaired k ≡ false → IsFreshIn window k → IsFreshIn more k
+more-fresh window more repaired k newest_is dead_is from other fresh =
+    let free = free-parts window k fresh.1 in (
+      subst (λ (o : Option ℕ). IsSomeAnd o (λ newest. k < newest)) (sym newest_is) fresh.0,
+      fresh-by (is_too_old more.newest k) (is_dead k more.dead) (is_available k more.packets)
+          (ap (λ o. is_too_old o k) newest_is ∙ free.0) (ap (is_dead k) dead_is ∙ free.1)
+          (false_from_ne_true (is_available k more.packets)
+          (λ there. true≢false (sym (from k there other) ∙ free.2))),
+    )
+
+-- the missing numbers are fresh once a packet was placed, and its repairs
+pub fresh-taken : (window more : Contents Held) (n : ℕ) (held : Held) (a : Arrival) (now : ℕ) (front : Option ℕ)
+    (asks : List Ask) → IsWindow window → a.number ≡ n → a.newest ≡ window.newest
+    → more.newest ≡ (after_placing n held window).newest → more.dead ≡ (after_placing n held window).dead
+    → ((m : ℕ) → is_available m more.packets ≡ true → is_among a.repaired m ≡ false →
+    is_available m (after_placing n held window).packets ≡ true)
+    → AreFresh window asks → AreFresh more (asks_taken now a front asks)
+fresh-taken window more n held a now front asks is number_is newest_is newest_more dead_more from fresh =
+    fresh-all more (asks_taken now a front asks) each where
+      inner : List Ask
+      inner = with_all_missing now (gap_of a.newest a.number)
+          (left_after front (newest_with a.newest a.number - WINDOW) a.number asks)
+
+      inner_is : with_all_missing now (gap_of a.newest a.number)
+          (left_after front (newest_with a.newest a.number - WINDOW) a.number asks)
+          ≡ with_all_missing now (gap_of window.newest n)
+          (left_after front (newest_with window.newest n - WINDOW) n asks)
+      inner_is = ap (λ (o : Option ℕ).
+          with_all_missing now (gap_of o a.number) (left_after front (newest_with o a.number - WINDOW) a.number asks))
+          newest_is
+          ∙ ap (λ (k : ℕ). with_all_missing now (gap_of window.newest k)
+          (left_after front (newest_with window.newest k - WINDOW) k asks)) number_is
+
+      inner-fresh : AreFresh (after_placing n held window) (with_all_missing now (gap_of a.newest a.number)
+          (left_after front (newest_with a.newest a.number - WINDOW) a.number asks))
+      inner-fresh = subst (AreFresh (after_placing n held window)) (sym inner_is)
+          (fresh-placed window n held now front asks is fresh)
+
+      each : (ask : Ask) → Contains (asks_taken now a front asks) ask → IsFreshIn more ask.number
+      each ask c =
+          let left = without-from a.repaired (with_all_missing now (gap_of a.newest a.number)
+          (left_after front (newest_with a.newest a.number - WINDOW) a.number asks)) ask c in
+          more-fresh (after_placing n held window) more a.repaired ask.number newest_more dead_more from left.1
+          (fresh-in (after_placing n held window) (with_all_missing now (gap_of a.newest a.number)
+          (left_after front (newest_with a.newest a.number - WINDOW) a.number asks)) inner-fresh ask left.0)
 
 -- a fresh number stays fresh if another is given up
 given-up-fresh : (window : Contents Held) (n k : ℕ) → k ≢ n → IsFreshIn window k →
@@ -405,14 +459,18 @@ near-of ns rise near = record {
       (Contains-get_or ns 0 0 (omega (arith, some))) (Contains-get_or ns (length ns - 1) 0 (omega (arith, some)));
 }
 
--- the numbers of a gap are near
-pub near-gap : (newest : Option ℕ) (n : ℕ) → AreNear (gap_of newest n)
-near-gap newest n = near-of (gap_of newest n)
-    (below-rises (gap_from newest (newest_with newest n)) (newest_with newest n)) close where
-      close : (a b : ℕ) → Contains (gap_of newest n) a → Contains (gap_of newest n) b → b ≤ a + NACK_SPAN
+-- the numbers of a gap that pass a test are near
+pub near-gap : (test : ℕ → Bool) (newest : Option ℕ) (n : ℕ) → AreNear (filter test (gap_of newest n))
+near-gap test newest n = near-of (filter test (gap_of newest n))
+    (rises-filter (λ (m : ℕ). m) test (gap_of newest n)
+    (below-rises (gap_from newest (newest_with newest n)) (newest_with newest n))) close where
+      close : (a b : ℕ) → Contains (filter test (gap_of newest n)) a → Contains (filter test (gap_of newest n)) b →
+          b ≤ a + NACK_SPAN
       close a b c d =
-          let low : newest_with newest n < a + WINDOW = (gap-in newest n a c).young in
-          let high : b < newest_with newest n = (gap-in newest n b d).below in
+          let low : newest_with newest n < a + WINDOW =
+          (gap-in newest n a (filter-from test (gap_of newest n) a c).0).young in
+          let high : b < newest_with newest n =
+          (gap-in newest n b (filter-from test (gap_of newest n) b d).0).below in
           omega (arith, low, high)
 
 -- what a test says of each

@@ -8,7 +8,7 @@ use Rattle.vrx_window.specs.Window.{Contents, is_dead, newest_with}
 use Rattle.vrx_window.specs.declared.held.Held.{Held}
 use Rattle.vrx_frames.specs.Run.{is_passed, numbers_from}
 use Rattle.vrx_core.specs.machine.GivenUp.{numbers_below, numbers_left}
-use Rattle.vrx_core.specs.relation.Order.{greatest_of}
+use Rattle.vrx_buffer.specs.Order.{greatest_of}
 use Rattle.vrx_core.specs.inside.Fields.{after_pulled}
 use Rattle.vrx_core.specs.inside.Wants.{lost_from}
 use Rattle.vrx_core.proofs.relation.ListLemmas.{Contains-either, Contains-empty, Contains-head, Contains-tail, filter-from, filter-to}

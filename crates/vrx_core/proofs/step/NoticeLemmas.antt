@@ -1,7 +1,7 @@
 -- Numbers are noticed one after the other.
-use Rattle.std.proofs.Common.{◌≡◌, ℕ, suc, ◌+◌, ◌-◌, ◌<◌, true, List, [], ◌∷◌, ◌++◌, refl, sym, ◌∙◌, ap, arith}
+use Rattle.std.proofs.Common.{◌≡◌, ℕ, suc, ◌+◌, ◌-◌, ◌<◌, Bool, true, false, cond, List, [], ◌∷◌, ◌++◌, refl, sym, ◌∙◌, ap, arith}
 use Rattle.std.specs.Prelude.{nat_lt}
-use Rattle.std.specs.List.{list_all}
+use Rattle.std.specs.List.{filter, list_all}
 use Rattle.std.proofs.lemmas.Bool.{lt-ltb, ltb-true, and_from, and_parts}
 use Rattle.std.proofs.lemmas.List.{append_assoc}
 use Rattle.vrx_num.specs.declared.limits.TheConstants.{WINDOW}
@@ -20,10 +20,20 @@ pub noticed-asks : (now n below : ℕ) (asks : List Ask) → n < below →
     (numbers_below n below) asks
 noticed-asks now n below asks less = sym (ap (λ ns. with_all_missing now ns asks) (below-first n below less))
 
-pub noticed-numbers : (n below : ℕ) (numbers : List ℕ) → n < below →
-    (numbers ++ n ∷ []) ++ numbers_below (n + 1) below ≡ numbers ++ numbers_below n below
-noticed-numbers n below numbers less = append_assoc numbers (n ∷ []) (numbers_below (n + 1) below)
-    ∙ ap (λ ns. numbers ++ ns) (sym (below-first n below less))
+-- of one and others those that pass a test
+filter-first : (test : ℕ → Bool) (n : ℕ) (ns : List ℕ) → filter test (n ∷ []) ++ filter test ns ≡ filter test (n ∷ ns)
+filter-first test n ns = by (test n) where
+  by : (b : Bool) → cond b (n ∷ []) [] ++ filter test ns ≡ cond b (n ∷ filter test ns) (filter test ns)
+  by true = refl
+  by false = refl
+
+pub noticed-unless : (test : ℕ → Bool) (n below : ℕ) (numbers : List ℕ) → n < below →
+    (numbers ++ filter test (n ∷ [])) ++ filter test (numbers_below (n + 1) below)
+    ≡ numbers ++ filter test (numbers_below n below)
+noticed-unless test n below numbers less =
+    append_assoc numbers (filter test (n ∷ [])) (filter test (numbers_below (n + 1) below))
+    ∙ ap (λ ns. numbers ++ ns) (filter-first test n (numbers_below (n + 1) below)
+    ∙ sym (ap (filter test) (below-first n below less)))
 
 -- one more number that is missing
 pub below-more : (n now : ℕ) (asks : List Ask) → are_below n asks ≡ true →

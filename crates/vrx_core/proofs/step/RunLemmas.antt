@@ -1,28 +1,28 @@
 -- The runs that stand, as the window's packets.
-use Rattle.std.proofs.Common.{◌≡◌, ℕ, zero, suc, ◌+◌, ◌-◌, ◌*◌, ◌^◌, ◌<◌, ◌≤◌, true, Bool, List, [], ◌∷◌, map, length, Option, Some, None, IfSome, is_some, Ok, refl, sym, subst, ap, ◌∙◌, arith, option_map}
+use Rattle.std.proofs.Common.{Contains, ◌≡◌, ℕ, zero, suc, ◌+◌, ◌-◌, ◌*◌, ◌^◌, ◌<◌, ◌≤◌, true, Bool, List, [], ◌∷◌, map, length, Option, Some, None, IfSome, is_some, Ok, refl, sym, subst, ap, ◌∙◌, arith, option_map}
 use Rattle.std.specs.Option.{option_and_then}
 use Rattle.std.specs.Result.{result_ok}
 use Rattle.std.proofs.lemmas.Bool.{false≢true}
 use Rattle.std.proofs.lemmas.Option.{none-some, same_Some}
 use Rattle.vrx_num.specs.declared.limits.TheConstants.{HALF_SPACE, MOST_EVENTS, WINDOW}
 use Rattle.vrx_codec.specs.Meaning.{Meaning}
+use Rattle.vrx_codec.specs.declared.run.Place.{Place}
 use Rattle.vrx_codec.specs.declared.run.Run.{Run as RunSummary}
 use Rattle.vrx_window.specs.Content.{Media, content_of, contents}
+use Rattle.vrx_window.specs.Sound.{place_at}
 use Rattle.vrx_window.specs.Window.{at, is_inside}
 use Rattle.vrx_window.specs.declared.held.Held.{Held}
 use Rattle.vrx_window.specs.declared.held.Held.TheVariants as helds
 use Rattle.vrx_frames.specs.IsRun.{ArePieces, IsPiece, IsRunBy, RunsAre}
 use Rattle.vrx_frames.specs.Run.{Packets, Piece, Run, summary_of}
 use Rattle.vrx_core.specs.machine.Machine.{frame_of}
-use Rattle.vrx_core.specs.machine.Standing.{no_layers}
-use Rattle.vrx_core.specs.relation.Frames.{next_of}
 use Rattle.vrx_core.specs.relation.StandsFor.{Assembly}
 use Rattle.vrx_core.specs.inside.Step.{packets_of}
 use Rattle.vrx_core.specs.inside.Fields.{IsFrameOf, IsWhole}
 use Rattle.vrx_core.specs.inside.Joins.{IsJoinable, join_of}
 use Rattle.vrx_frames.specs.Parts.{is_media, part_at, part_of, parts_from}
 use Rattle.vrx_core.specs.declared.reply.Frame.{Frame}
-use Rattle.vrx_core.proofs.relation.CallLemmas.{IsTold, frame-is, next-among}
+use Rattle.vrx_core.proofs.relation.CallLemmas.{IsTold, frame-is}
 use Rattle.vrx_core.proofs.relation.MapLemmas.{at_map}
 use Rattle.vrx_core.proofs.relation.WindowLemmas.{window-order}
 use Rattle.vrx_core.proofs.step.JoinLemmas.{part_of-text, parts-next}
@@ -66,8 +66,8 @@ media-available : (o : Option Held) → is_media o ≡ true → is_some o ≡ tr
 media-available None is = absurd (false≢true is)
 media-available (Some held) is = refl
 
-module _ (codec : Meaning) (held : List (ℕ × Held)) (starts : Piece → Bool) (run : Run)
-    (is : IsRunBy codec no_layers starts (contents held) run) where
+module _ (codec : Meaning) (held : List (ℕ × Held)) (place : ℕ → Option Place) (starts : Piece → Bool) (run : Run)
+    (is : IsRunBy codec place starts (contents held) run) where
   -- each number of a run is held media
   pub run-media : (n : ℕ) → run.first ≤ n → n ≤ run.last → is_media (at n held) ≡ true
   run-media n from to =
@@ -102,15 +102,15 @@ newest-low (Some newest) m events is few reach =
 pub joinable : (codec : Meaning) (parts : Assembly) (told : RunSummary) → IsWhole codec parts →
     IsTold codec parts told → IsJoinable codec parts.window.packets told
 joinable codec parts told whole is = subst (λ t. IsJoinable codec parts.window.packets t) is.told_is (record {
-  sound = λ n held here. (whole.kept.taken n held here).0;
+  sound = whole.kept.sound;
   some = is.is_run.not_empty;
   few = few;
   low = low;
   media = media;
-  octets = ap (λ r. option_map length (result_ok r)) (run-joins codec parts.window.packets _ is.run is.is_run);
+  octets = ap (λ r. option_map length (result_ok r)) (run-joins codec parts.window.packets (place_at parts.window.packets) _ is.run is.is_run);
 }) where
   media : (n : ℕ) → is.run.first ≤ n → n ≤ is.run.last → is_media (at n parts.window.packets) ≡ true
-  media = run-media codec parts.window.packets _ is.run is.is_run
+  media = run-media codec parts.window.packets (place_at parts.window.packets) _ is.run is.is_run
 
   inside : (n : ℕ) → is.run.first ≤ n → n ≤ is.run.last →
       (m : ℕ) × (parts.window.newest ≡ Some m) × (m < n + WINDOW) × (n ≤ m)
@@ -133,12 +133,11 @@ joinable codec parts told whole is = subst (λ t. IsJoinable codec parts.window.
       newest-low parts.window.newest b.0 parts.events b.1 whole.kept.few whole.kept.reach in
       omega arith
 
--- the run that is next can be joined
-pub next-joinable : (are : RunsAre) (codec : Meaning) (parts : Assembly) (told : RunSummary) → IsWhole codec parts →
-    next_of parts.front parts.frames ≡ Some told → IsJoinable codec parts.window.packets told
-next-joinable are codec parts told whole due =
-    joinable codec parts told whole
-    (frame-is are codec parts told whole.kept (next-among parts.front parts.frames told due))
+-- a run that stands can be joined
+pub standing-joinable : (are : RunsAre) (codec : Meaning) (parts : Assembly) (told : RunSummary) → IsWhole codec parts →
+    Contains parts.frames told → IsJoinable codec parts.window.packets told
+standing-joinable are codec parts told whole there =
+    joinable codec parts told whole (frame-is are codec parts told whole.kept there)
 
 -- a frame of a run
 same-frame : (told : RunSummary) (run : Run) (bytes : List ℕ) → summary_of run ≡ told → bytes ≡ run.bytes →
@@ -157,4 +156,4 @@ frame-joined codec parts told bytes joins run is told_is =
     let here : join_of codec (packets_of parts) run.first run.last ≡ Ok bytes =
     subst (λ (t : RunSummary). join_of codec (packets_of parts) t.first t.last ≡ Ok bytes) (sym told_is) joins in
     same-frame told run bytes told_is
-    (same_Some bytes run.bytes (ap result_ok (sym here ∙ run-joins codec parts.window.packets _ run is)))
+    (same_Some bytes run.bytes (ap result_ok (sym here ∙ run-joins codec parts.window.packets (place_at parts.window.packets) _ run is)))

@@ -6,20 +6,24 @@ use Rattle.vrx_asks.specs.Asks.{asked_numbers, given_up_numbers}
 use Rattle.vrx_asks.specs.IsAsks.{IsAsks}
 use Rattle.vrx_codec.specs.Meaning.{Meaning}
 use Rattle.vrx_window.specs.Content.{Content, contents_of}
-use Rattle.vrx_window.specs.Window.{Contents, is_dead, newest_with}
+use Rattle.vrx_window.specs.Window.{Contents, after_placing, is_dead, newest_with}
+use Rattle.vrx_window.specs.declared.held.Held.{Held}
 use Rattle.vrx_frames.specs.IsRun.{RunsApart, RunsAre, RunsRise}
 use Rattle.vrx_frames.specs.Run.{Run, is_passed, summary_of}
+use Rattle.vrx_repair.specs.Plan.{repairs_in}
+use Rattle.vrx_repair.specs.Source.{Source}
 use Rattle.vrx_core.specs.machine.GivenUp.{all_lost, numbers_left}
 use Rattle.vrx_core.specs.machine.KeyRequest.{completes_key}
-use Rattle.vrx_core.specs.machine.Machine.{Snapshot, ToDatagram, ToTick, after_datagram, after_pull, after_tick, frame_of, latest, nack_for, next, next_run, opening, pli_for, reply, snapshots}
+use Rattle.vrx_core.specs.machine.Machine.{Snapshot, ToDatagram, ToTick, after_datagram, after_pull, after_tick, frame_of, latest, nack_for, next, next_run, opening, pli_for, reply, snapshots, source_in}
 use Rattle.vrx_core.specs.machine.Snapshot.{moved}
 use Rattle.vrx_core.specs.machine.Verdict.{verdict}
-use Rattle.vrx_core.specs.relation.Order.{greatest_of}
+use Rattle.vrx_buffer.specs.Order.{greatest_of}
 use Rattle.vrx_core.specs.relation.StandsFor.{Assembly, IsAssembled, StandsFor, StandsIn, Wanted, WantsIn, parts_of}
 use Rattle.vrx_core.specs.inside.Fields.{ComesOf, IsArrival, IsHandedOut, IsHandled, IsTakenWith, IsWhole}
-use Rattle.vrx_core.specs.inside.Kept.{key_numbers}
-use Rattle.vrx_core.specs.inside.Step.{after_counting}
-use Rattle.vrx_core.specs.inside.Wants.{asked_with, asks_key, key_after, is_lost_open, key_with, given_up_all, lost_ticked, needs_key, nothing_wanted, open_after, pulled_with, wanted_pulled, wanted_ticked, wanted_with}
+use Rattle.vrx_buffer.specs.Frames.{key_numbers}
+use Rattle.vrx_core.specs.inside.Step.{after_counting, lowest_of, pictures_with}
+use Rattle.vrx_buffer.specs.Frames.{runs_from}
+use Rattle.vrx_core.specs.inside.Wants.{asked_with, asks_key, key_after, is_lost_open, key_with, given_up_all, lost_ticked, needs_key, nothing_wanted, open_after, pulled_with, repaired_with, wanted_pulled, wanted_ticked, wanted_with}
 use Rattle.vrx_core.specs.declared.assembler.Arrival.{Arrival}
 use Rattle.vrx_core.specs.declared.assembler.Outcome.{Outcome}
 use Rattle.vrx_core.specs.declared.event.Event.{Event}
@@ -31,6 +35,9 @@ use Rattle.vrx_core.proofs.asking.WantsLemmas.{asked-ticked, asks-moved, asks-op
 use Rattle.vrx_core.proofs.keyframes.AnsweredLemmas.{Falls, key_standing, pulled-falls}
 use Rattle.vrx_core.proofs.keyframes.CompletesLemmas.{taken-completes}
 use Rattle.vrx_core.proofs.keyframes.KeyWantsLemmas.{moved-key_asked, moved-key_pulled, moved-keyed, opening-key_asked, opening-key_pulled, opening-keyed, pulled-key_asked, pulled-key_pulled, pulled-keyed, ticked-asks, ticked-key_asked, ticked-key_pulled, ticked-keyed, taken-asks, taken-key_asked, taken-key_pulled, taken-keyed}
+use Rattle.vrx_core.proofs.relation.CameLemmas.{Came, came, left-of, numbers-made}
+use Rattle.vrx_core.proofs.relation.GrowLemmas.{numbers_made}
+use Rattle.vrx_core.proofs.relation.WindowLemmas.{contents_of-after_placing}
 use Rattle.vrx_core.proofs.machine.MachineLemmas.{clock-is, reply-is, snapshots-cons}
 use Rattle.vrx_core.proofs.step.EventLemmas.{IsPull, datagram-counts, datagram-settings, datagram-stands, datagram-what, pull-is, pull-settings, pull-stands, tick-stands}
 
@@ -93,43 +100,50 @@ module _ (are : RunsAre) (rise : RunsRise) (codec : Meaning) (before after : Ass
   clock-after = (datagram-counts codec before after moment octets outcome handled).1
       ∙ ap (λ k. max k moment) (stands.assembled.clock ∙ sym (clock-is before.settings codec h))
 
+  -- the source whose packets are repaired
+  abbrev source : Source
+  source = source_in before.settings codec
+
   -- what is left, and what it says
   record Comes (s : Snapshot) : Type 0 where
     wants : WantsIn (wanted_with after.clock after.front key outcome.arrival wanted) (s ∷ past)
     asked : asked_with outcome.arrival ≡ s.asked
     key_asked : key_with after.clock key outcome.arrival wanted ≡ s.key_asked
+    repaired : repaired_with outcome.arrival ≡ s.repaired
 
   by-arrival : (arrival : Option Arrival) → outcome.arrival ≡ arrival → (s : Snapshot)
       → WantsIn (wanted_with after.clock after.front key arrival wanted) (s ∷ past) → asked_with arrival ≡ s.asked →
-      key_with after.clock key arrival wanted ≡ s.key_asked → Comes s
-  by-arrival arrival is s wants asked key_asked = record {
+      key_with after.clock key arrival wanted ≡ s.key_asked → repaired_with arrival ≡ s.repaired → Comes s
+  by-arrival arrival is s wants asked key_asked repaired = record {
     wants = subst (λ a. WantsIn (wanted_with after.clock after.front key a wanted) (s ∷ past)) (sym is) wants;
     asked = ap asked_with is ∙ asked;
     key_asked = ap (λ a. key_with after.clock key a wanted) is ∙ key_asked;
+    repaired = ap repaired_with is ∙ repaired;
   }
 
   taken-comes : (n : ℕ) (content : Content) (arrival : Arrival) → outcome.arrival ≡ Some arrival →
       IsTakenWith codec before after moment n content arrival
-      → StandsIn codec after (after_datagram codec past moment (Ok (n, content)) ∷ past) →
-      Comes (after_datagram codec past moment (Ok (n, content)))
+      → StandsIn codec after (after_datagram source past moment (Ok (n, content)) ∷ past) →
+      Comes (after_datagram source past moment (Ok (n, content)))
   taken-comes n content arrival is taken stood = by-arrival (Some arrival) is s (record {
     asks = ap (λ k. (wanted_with k after.front key (Some arrival) wanted).asks) clock-after
         ∙ ap (λ f. (wanted_with (max (latest past).now moment) f key (Some arrival) wanted).asks) stood.front
-        ∙ asks-taken before.settings codec h moment n content arrival arrives.number_is newest_is wanted.asks
+        ∙ asks-taken before.settings codec h moment n content arrival arrives.number_is newest_is repaired_is wanted.asks
         stands.wants.asks asks_sound;
-    lost = lost-taken before.settings codec h moment n content arrival arrives.number_is newest_is lost_is wanted.lost
-        stands.wants.lost;
-    key_pulled = taken-key_pulled codec past moment n content wanted stands.wants.key_pulled;
-    keyed = ap (λ b. wanted.keyed || b) completed ∙ taken-keyed codec past moment n content wanted stands.wants.keyed;
+    lost = lost-taken before.settings codec h moment n content arrival arrives.number_is newest_is repaired_is lost_is
+        wanted.lost stands.wants.lost;
+    key_pulled = taken-key_pulled source past moment n content wanted stands.wants.key_pulled;
+    keyed = ap (λ b. wanted.keyed || b) completed
+        ∙ taken-keyed source past moment n content wanted stands.wants.keyed;
     key_asked = ap (λ k. (wanted_with k after.front key (Some arrival) wanted).key_asked) clock-after
         ∙ ap (λ f. (wanted_with (max (latest past).now moment) after.front (greatest_of (key_numbers f))
         (Some arrival) wanted).key_asked) stood.frames
         ∙ ap (λ b. key_after (max (latest past).now moment)
         (is_lost_open (greatest_of (key_numbers (map summary_of s.standing))) wanted.key_pulled arrival.lost)
         (open_after b wanted.key_asked)) completed
-        ∙ taken-key_asked codec past moment n content wanted falls stands.wants.key_pulled stands.wants.key_asked
+        ∙ taken-key_asked source past moment n content wanted falls stands.wants.key_pulled stands.wants.key_asked
         arrival.lost lost_now;
-  }) (gap-taken before.settings codec h moment n content arrival arrives.number_is newest_is wanted.asks
+  }) (gap-taken before.settings codec h moment n content arrival arrives.number_is newest_is repaired_is wanted.asks
       stands.wants.asks asks_sound)
       (ap (λ k. key_with k key (Some arrival) wanted) clock-after
       ∙ ap (λ f. key_with (max (latest past).now moment) (greatest_of (key_numbers f)) (Some arrival) wanted)
@@ -137,13 +151,22 @@ module _ (are : RunsAre) (rise : RunsRise) (codec : Meaning) (before after : Ass
       ∙ ap (λ b. asks_key (max (latest past).now moment)
       (is_lost_open (greatest_of (key_numbers (map summary_of s.standing))) wanted.key_pulled arrival.lost)
       (open_after b wanted.key_asked)) completed
-      ∙ taken-asks codec past moment n content wanted falls stands.wants.key_pulled stands.wants.key_asked
-      arrival.lost lost_now) where
+      ∙ taken-asks source past moment n content wanted falls stands.wants.key_pulled stands.wants.key_asked
+      arrival.lost lost_now)
+      repaired_is where
         s : Snapshot
-        s = after_datagram codec past moment (Ok (n, content))
+        s = after_datagram source past moment (Ok (n, content))
 
-        arrives : IsArrival before n taken.taken.answers arrival
+        arrives : IsArrival before n taken.made taken.taken.key arrival
         arrives = taken.arrives
+
+        -- the repairs, as the machine has them
+        repaired_is : arrival.repaired ≡ (after_datagram source past moment (Ok (n, content))).repaired
+        repaired_is = arrives.repaired_is ∙ numbers-made taken.made
+            ∙ ap numbers_made taken.planned.repairs
+            ∙ ap (λ w. numbers_made (repairs_in source w)) (contents_of-after_placing before.window n taken.held)
+            ∙ ap (λ c. numbers_made (repairs_in source (after_placing n c (contents_of before.window)))) taken.content_is
+            ∙ ap (λ w. numbers_made (repairs_in source (after_placing n content w))) stands.assembled.stands.window
 
         asks_sound : IsAsks wanted.asks
         asks_sound = sound (ap is_some is)
@@ -164,30 +187,40 @@ module _ (are : RunsAre) (rise : RunsRise) (codec : Meaning) (before after : Ass
             (numbers_left (latest past).window.first (latest past).window.newest
             (Some (newest_with (latest past).window.newest n))))) stands.assembled.stands.front
 
-        lost_now : arrival.lost ≡ greatest_of s.lost
-        lost_now = lost-arrived before.settings codec h moment n content arrival arrives.number_is newest_is lost_is
+        lost_now : arrival.lost ≡ greatest_of (after_datagram source past moment (Ok (n, content))).lost
+        lost_now = lost-arrived before.settings codec h moment n content arrival arrives.number_is newest_is repaired_is
+            lost_is
+
+        came_in : Came before.window after.window n taken.held taken.made (newest_with before.window.newest n)
+        came_in = subst (λ (w : Contents Held). Came before.window w n taken.held taken.made
+            (newest_with before.window.newest n)) (sym taken.taken.window)
+            (came source before.window n taken.held taken.made (pictures_with before.pictures taken.held) whole.window.packets_rise
+            whole.window.packets_inside taken.may.fresh taken.planned)
 
         completed : arrival.key ≡ completes_key (latest past).standing s.standing
         completed = arrives.key_is
-            ∙ sym (taken-completes are rise codec before after n taken.held whole.kept whole.window.packets_rise
-            whole.window.packets_inside taken.may.fresh taken.taken
-            (latest past).standing s.standing stands.assembled.stands.frames stood.frames)
+            ∙ sym (taken-completes are rise codec before after n taken.held taken.made whole'.window
+            (ap (runs_from (lowest_of after.window.newest)) whole.kept.frames
+            ∙ left-of are rise codec before.window after.window n taken.held taken.made before.front before.known
+            whole.kept.arrivals whole.window.packets_rise whole.window.packets_inside came_in
+            whole'.window.packets_rise)
+            taken.taken (latest past).standing s.standing stands.assembled.stands.frames stood.frames)
 
         falls : Falls (latest (snapshots before.settings codec h)).pulled
         falls = pulled-falls are before.settings codec h
 
   comes-by : (v : Result (ℕ × Content) NotTaken) → ComesOf codec before after moment outcome.arrival v →
-      StandsIn codec after (after_datagram codec past moment v ∷ past) → Comes (after_datagram codec past moment v)
+      StandsIn codec after (after_datagram source past moment v ∷ past) → Comes (after_datagram source past moment v)
   comes-by (Err left) comes stood =
-      by-arrival None comes.0 (moved (latest past) moment) (wants-moved wanted past moment stands.wants) refl refl
+      by-arrival None comes.0 (moved (latest past) moment) (wants-moved wanted past moment stands.wants) refl refl refl
   comes-by (Ok (n, content)) comes stood = taken-comes n content comes.0 comes.1 comes.2 stood
 
-  comes : Comes (after_datagram codec past moment (verdict before.settings codec (latest past).window octets))
-  comes = subst (λ w. Comes (after_datagram codec past moment (verdict before.settings codec w octets)))
+  comes : Comes (after_datagram source past moment (verdict before.settings codec (latest past).window octets))
+  comes = subst (λ w. Comes (after_datagram source past moment (verdict before.settings codec w octets)))
       stands.assembled.stands.window
       (comes-by (verdict before.settings codec (contents_of before.window) octets) handled.comes
       (subst (λ w. StandsIn codec after
-      (after_datagram codec past moment (verdict before.settings codec w octets) ∷ past))
+      (after_datagram source past moment (verdict before.settings codec w octets) ∷ past))
       (sym stands.assembled.stands.window)
       (subst (λ p. StandsIn codec after p) (snapshots-cons before.settings codec (Datagram moment octets) h)
       (subst (λ t. StandsIn codec after (snapshots t codec (Datagram moment octets ∷ h))) settings-is
@@ -204,7 +237,7 @@ module _ (are : RunsAre) (rise : RunsRise) (codec : Meaning) (before after : Ass
         (Datagram moment octets) comes.wants);
   }
 
-  pub datagram-reply : (repaired : List ℕ) → repaired ≡ [] → ToDatagram (record {
+  pub datagram-reply : (repaired : List ℕ) → repaired ≡ repaired_with outcome.arrival → ToDatagram (record {
     what = outcome.what;
     repaired = repaired;
     feedback = record {
@@ -213,10 +246,10 @@ module _ (are : RunsAre) (rise : RunsRise) (codec : Meaning) (before after : Ass
           (key_with after.clock (greatest_of (key_numbers after.frames)) outcome.arrival wanted);
     };
   }) ≡ reply before.settings codec h (Datagram moment octets)
-  datagram-reply repaired none =
+  datagram-reply repaired repaired_is =
       (λ i. ToDatagram (record {
         what = datagram-what codec before after moment octets outcome h handled stands.assembled i;
-        repaired = none i;
+        repaired = (repaired_is ∙ comes.repaired) i;
         feedback = record {
           nack = nack_for (settings-is i) (comes.asked i);
           pli = pli_for (settings-is i) (comes.key_asked i);

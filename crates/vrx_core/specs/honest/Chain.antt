@@ -1,10 +1,24 @@
--- Which frames a frame rests on, by rule: what its sender may take as its references. No frame has layers.
-use Rattle.std.specs.Prelude.{◌≡◌, ℕ, ◌+◌, false, List, [], ◌∷◌, slice_get, IsSomeAnd}
-use Rattle.vrx_core.specs.honest.Sender.{Sender}
+-- Which frames a frame rests on, by rule (RFC 7741 4.2): what its sender may take as its references.
+use Rattle.std.specs.Prelude.{◌≡◌, ℕ, ◌+◌, Bool, true, false, List, [], ◌∷◌, slice_get, Option, None, Some, IsSomeAnd}
+use Rattle.vrx_codec.specs.declared.run.Place.{Place}
+use Rattle.vrx_core.specs.honest.Sender.{SentFrame, Sender}
+use Rattle.vrx_core.specs.honest.Layers.{IsLastOf, IsLastUpTo, is_on_base}
 
--- frame g is a rule reference of frame f: a keyframe has none, and another frame has the frame before it
+-- a frame with layers refers to its base: the last frame of TID 0 before it. One that doesn't refer to its base only
+-- refers to the last frame of each TID up to its own, but to none before the last keyframe
+abbrev pub RefersBy : List SentFrame → Place → Bool → (f g : ℕ) → Type 0
+RefersBy frames place true f g = IsLastOf frames 0 f g
+RefersBy frames place false f g = IsLastUpTo frames place.tid f g
+
+-- a frame without layers refers to the frame before it
+abbrev pub RefersTo : List SentFrame → Option Place → (f g : ℕ) → Type 0
+RefersTo frames None f g = g + 1 ≡ f
+RefersTo frames (Some place) f g = RefersBy frames place (is_on_base place) f g
+
+-- frame g is a rule reference of frame f, which is no keyframe: those have none
 abbrev pub IsRuleReference : Sender → ℕ → ℕ → Type 0
-IsRuleReference sender f g = IsSomeAnd (slice_get sender.frames f) (λ frame. (frame.key ≡ false) × (g + 1 ≡ f))
+IsRuleReference sender f g = IsSomeAnd (slice_get sender.frames f)
+    (λ frame. (frame.key ≡ false) × RefersTo sender.frames frame.layers f g)
 
 -- rule references lead from frame f by way of these frames to frame g
 abbrev pub Leads : Sender → ℕ → List ℕ → ℕ → Type 0

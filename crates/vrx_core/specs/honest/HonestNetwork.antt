@@ -1,42 +1,28 @@
 -- An honest network: what it brings comes from the sender, or is octets that are RTCP or refused,
 -- whatever came before. Loss, repeats and order are free.
-use Rattle.std.specs.Prelude.{ℕ, ◌+◌, ◌≤◌, max, Bool, if◌then◌else◌, List, [], ◌∷◌, slice_get, IsSomeAnd, IsErr, is_ok}
+use Rattle.std.specs.Prelude.{ℕ, ◌+◌, ◌<◌, ◌≤◌, max, List, [], ◌∷◌, slice_get, Contains, IsSomeAnd, IsErr}
 use Rattle.vrx_codec.specs.Meaning.{Meaning}
-use Rattle.vrx_num.specs.declared.limits.TheConstants.{HALF_SPACE}
+use Rattle.vrx_codec.specs.declared.run.Place.{Place}
+use Rattle.vrx_num.specs.declared.limits.TheConstants.{HALF_PICTURES, HALF_SPACE}
 use Rattle.vrx_core.specs.machine.Original.{original}
-use Rattle.vrx_core.specs.machine.Verdict.{verdict}
 use Rattle.vrx_core.specs.machine.Machine.{latest, snapshots}
+use Rattle.vrx_core.specs.machine.Told.{Told}
 use Rattle.vrx_core.specs.honest.Sender.{Sender, wire_of}
+pub use Rattle.vrx_core.specs.honest.Taken.{Origin, FromSender, Elsewhere, takes}
+unfoldable pub use Rattle.vrx_core.specs.honest.Taken.{packets_taken}
+use Rattle.vrx_core.specs.honest.Number.{IsOfFrame}
 use Rattle.vrx_core.specs.honest.WireForm.{IsWireForm}
 use Rattle.vrx_core.specs.declared.settings.Settings.{Settings}
 use Rattle.vrx_core.specs.declared.event.Event.{Event}
 use Rattle.vrx_core.specs.declared.event.Event.TheVariants.{Datagram, Tick, Pull}
-
--- where an event comes from: it brings the sender's packet i, or nothing of the sender's
-pub data Origin : Type 0 where
-  FromSender : (i : ℕ) → Origin
-  Elsewhere : Origin
-
--- whether the receiver takes these octets after a history
-abbrev pub takes : Settings → Meaning → List Event → List ℕ → Bool
-takes settings codec h octets = is_ok (verdict settings codec (latest (snapshots settings codec h)).window octets)
-
--- the sender's packets that were taken in a history, the newest first; the origins stand in the order of the events
-unfoldable pub packets_taken : Settings → Meaning → List Event → List Origin → List ℕ
-packets_taken settings codec [] origins = []
-packets_taken settings codec (e ∷ h) [] = []
-packets_taken settings codec (e ∷ h) (Elsewhere ∷ origins) = packets_taken settings codec h origins
-packets_taken settings codec (Tick moment ∷ h) (FromSender i ∷ origins) = packets_taken settings codec h origins
-packets_taken settings codec (Pull moment ∷ h) (FromSender i ∷ origins) = packets_taken settings codec h origins
-packets_taken settings codec (Datagram moment octets ∷ h) (FromSender i ∷ origins) = if takes settings codec h octets
-    then i ∷ packets_taken settings codec h origins else packets_taken settings codec h origins
 
 -- the greatest of the packets taken
 abbrev pub greatest : List ℕ → ℕ
 greatest [] = 0
 greatest (i ∷ is) = max i (greatest is)
 
--- no packet was taken yet, or packet i is at most 32,768 away from the greatest that was
+-- no packet was taken yet, or packet i is at most 32,768 away from the greatest that was; what is repaired is never
+-- greater
 abbrev pub IsNear : ℕ → List ℕ → Type 0
 IsNear i [] = Unit {0}
 IsNear i (j ∷ js) = (i ≤ greatest (j ∷ js) + HALF_SPACE) × (greatest (j ∷ js) ≤ i + HALF_SPACE)
@@ -53,10 +39,30 @@ IsDelivery settings codec sender h origins (Datagram moment octets) (FromSender 
     IsSomeAnd (slice_get sender.packets i) (λ packet. IsWireForm settings (wire_of sender i) packet octets)
     × IsNear i (packets_taken settings codec h origins)
 
--- each of the events that follow a history is such a delivery
+-- frame g is the newest of those of which packets told places
+pub record IsNewestTold (sender : Sender) (js : List ℕ) (told : Told) (g : ℕ) : Type 0 where
+  pub entry : ℕ × Place
+  pub among : Contains told entry
+  pub of_frame : IsOfFrame sender js entry.0 g
+  pub newest : (other : ℕ × Place) (f : ℕ) → Contains told other → IsOfFrame sender js other.0 f → f ≤ g
+
+-- The frame of which a packet told a place is fewer than 16,384 pictures away from the newest one of which a place was
+-- told before; the frames' pictures rise by one. The packets that told places stand the newest first
+abbrev pub AreNearTold : Sender → List ℕ → Told → Type 0
+AreNearTold sender js [] = Unit {0}
+AreNearTold sender js (entry ∷ told) = ((f g : ℕ) → IsOfFrame sender js entry.0 f → IsNewestTold sender js told g →
+    (f < g + HALF_PICTURES) × (g < f + HALF_PICTURES)) × AreNearTold sender js told
+
+-- so it is of all packets with layers that became available in a history, as they were taken or repaired
+abbrev pub PicturesAreNear : Settings → Meaning → Sender → List Event → List Origin → Type 0
+PicturesAreNear settings codec sender h origins =
+    AreNearTold sender (packets_taken settings codec h origins) (latest (snapshots settings codec h)).told
+
+-- each of the events that follow a history is such a delivery, and leaves pictures near
 abbrev pub HonestNetwork : Settings → Meaning → Sender → List Event → List Origin → List Event → List Origin → Type 0
 HonestNetwork settings codec sender h origins [] [] = Unit {0}
 HonestNetwork settings codec sender h origins [] (o ∷ os) = ⊥
 HonestNetwork settings codec sender h origins (e ∷ es) [] = ⊥
 HonestNetwork settings codec sender h origins (e ∷ es) (o ∷ os) =
-    IsDelivery settings codec sender h origins e o × HonestNetwork settings codec sender (e ∷ h) (o ∷ origins) es os
+    IsDelivery settings codec sender h origins e o × PicturesAreNear settings codec sender (e ∷ h) (o ∷ origins)
+    × HonestNetwork settings codec sender (e ∷ h) (o ∷ origins) es os

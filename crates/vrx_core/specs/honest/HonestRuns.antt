@@ -1,6 +1,8 @@
 -- The runs of an honest call are the sender's frames.
-use Rattle.std.specs.Prelude.{◌≡◌, ℕ, List, [], ◌∷◌, slice_get, Contains, Some, None}
+use Rattle.std.specs.Prelude.{◌≡◌, ℕ, List, [], ◌∷◌, slice_get, Contains, Option, Some, None}
 use Rattle.vrx_codec.specs.Meaning.{Meaning}
+use Rattle.vrx_codec.specs.declared.run.Place.{Place}
+use Rattle.vrx_window.specs.Sound.{on_wire}
 use Rattle.vrx_frames.specs.Run.{Run}
 use Rattle.vrx_core.specs.machine.SettingsFault.{fault_of}
 use Rattle.vrx_core.specs.machine.Machine.{latest, snapshots}
@@ -15,7 +17,14 @@ use Rattle.vrx_core.specs.declared.event.Event.{Event}
 abbrev pub Stands : Settings → Meaning → List Event → Run → Type 0
 Stands settings codec h run = Contains (latest (snapshots settings codec h)).standing run
 
--- a run is frame f of the sender: it has the numbers of its packets, its timestamp, its kind, its bytes and no layers
+-- the receiver's place of a frame is the sender's, but for its picture, whose count begins elsewhere: both are equal in
+-- 15 bits (RFC 7741 4.2)
+abbrev pub IsSamePlace : Option Place → Option Place → Type 0
+IsSamePlace None None = Unit {0}
+IsSamePlace (Some known) (Some sent) = on_wire known ≡ on_wire sent
+IsSamePlace _ _ = ⊥
+
+-- a run is frame f of the sender: it has the numbers of its packets, its timestamp, its kind, its bytes and its layers
 pub record IsFrameRun (sender : Sender) (js : List ℕ) (f : ℕ) (run : Run) : Type 0 where
   pub frame : SentFrame
   pub sent : slice_get sender.frames f ≡ Some frame
@@ -23,7 +32,7 @@ pub record IsFrameRun (sender : Sender) (js : List ℕ) (f : ℕ) (run : Run) : 
   pub ts : run.ts ≡ frame.ts
   pub key : run.key ≡ frame.key
   pub bytes : run.bytes ≡ frame.bytes
-  pub layers : run.layers ≡ None
+  pub layers : IsSamePlace run.layers frame.layers
 
 -- after a history, each run that stands is a frame of the sender, and each frame that stands complete is such a run
 pub record RunsRightly (settings : Settings) (codec : Meaning) (sender : Sender) (h : List Event)

@@ -1,7 +1,7 @@
--- An honest sender, for given settings and a codec. No frame has layers, and each packet is a part of a frame or
--- empty.
-use Rattle.std.specs.Prelude.{◌≡◌, ◌≢◌, ◌↔◌, ◌⊎◌, ℕ, ◌+◌, ◌<◌, ◌≤◌, true, List, [], ◌∷◌, map, length, slice_get, All, Contains, Some, None, IfSome, Ok}
-use Rattle.vrx_num.specs.declared.limits.TheConstants.{MOST_OCTETS}
+-- An honest sender, for given settings and a codec. Each packet is a part of a frame, a FEC packet, or empty.
+use Rattle.std.specs.Prelude.{◌≡◌, ◌≢◌, ◌↔◌, ◌⊎◌, ℕ, ◌+◌, ◌-◌, ◌%◌, ◌<◌, ◌≤◌, true, List, [], ◌∷◌, map, length, slice_get, All, Contains, Some, IfSome, IsSomeAnd, Ok}
+use Rattle.std.specs.Option.{option_map}
+use Rattle.vrx_num.specs.declared.limits.TheConstants.{HALF_SPACE, MOST_OCTETS}
 use Rattle.vrx_rtp.specs.Packet.{Packet}
 use Rattle.vrx_num.specs.Octets.{AreOctets}
 use Rattle.vrx_rtp.specs.Reading.{read}
@@ -9,7 +9,11 @@ use Rattle.vrx_codec.specs.Part.{Part}
 use Rattle.vrx_codec.specs.declared.part.Start.{Start}
 use Rattle.vrx_codec.specs.declared.part.Start.TheVariants.{Yes, No, ByNeighbour}
 use Rattle.vrx_codec.specs.Meaning.{Meaning}
-use Rattle.vrx_core.specs.honest.Sender.{SentFrame, Media, Empty, Sender, wire_of}
+use Rattle.vrx_window.specs.Sound.{on_wire}
+use Rattle.vrx_fec.specs.Parity.{IsTrue, Texts}
+use Rattle.vrx_fec.specs.Payload.{IsPayload, Payload}
+use Rattle.vrx_core.specs.honest.Sender.{SentFrame, SentPacket, Media, Fec, Sender, IsNoPart, wire_of}
+use Rattle.vrx_core.specs.honest.Layers.{LayersAreRight}
 use Rattle.vrx_core.specs.honest.Chain.{InChain}
 use Rattle.vrx_core.specs.declared.settings.Settings.{Settings}
 
@@ -21,7 +25,7 @@ pub record CarriedPart : Type 0 where
 
 -- a media packet of the stream, under this sequence number: its text has at most 9,216 octets, each below 256, and
 -- reads as an RTP packet without padding, with the media type and the media SSRC; its payload isn't empty and is read
--- by the codec (RFC 3550 5.1). The part has no layers
+-- by the codec (RFC 3550 5.1)
 pub record IsMedia (settings : Settings) (codec : Meaning) (wire : ℕ) (carried : CarriedPart) : Type 0 where
   pub size : length carried.text ≤ MOST_OCTETS
   pub below : AreOctets carried.text
@@ -32,7 +36,6 @@ pub record IsMedia (settings : Settings) (codec : Meaning) (wire : ℕ) (carried
   pub source : carried.packet.ssrc ≡ settings.media_ssrc
   pub payload : carried.packet.payload ≢ []
   pub part_reads : codec.read carried.packet.payload ≡ Ok carried.part
-  pub layers : carried.part.layers ≡ None
 
 -- what part k of a frame may say of its beginning, k counted from 0: one that says that it begins the frame is the
 -- first, one that says that it doesn't isn't, and each may leave it to the packet before (RFC 7741 4.2, RFC 6184 5.1)
@@ -42,7 +45,8 @@ SaysRightly k No = k ≢ 0
 SaysRightly k ByNeighbour = Unit {0}
 
 -- packet i is part k of frame f, which has so many parts: it has the frame's timestamp, has the marker exactly if it is
--- the last part (RFC 7741 4.1, RFC 6184 5.1), and says rightly whether it begins the frame
+-- the last part (RFC 7741 4.1, RFC 6184 5.1), says rightly whether it begins the frame, and carries the frame's layers,
+-- its picture cut to 15 bits (RFC 7741 4.2)
 pub record IsPart (settings : Settings) (codec : Meaning) (sender : Sender) (f : ℕ) (frame : SentFrame)
     (count k i : ℕ) (carried : CarriedPart) : Type 0 where
   pub sent : slice_get sender.packets i ≡ Some (Media f k carried.text)
@@ -50,6 +54,7 @@ pub record IsPart (settings : Settings) (codec : Meaning) (sender : Sender) (f :
   pub timestamp : carried.packet.ts ≡ frame.ts
   pub marker : (carried.packet.marker ≡ true) ↔ (k + 1 ≡ count)
   pub start : SaysRightly k carried.part.start
+  pub layers : carried.part.layers ≡ option_map on_wire frame.layers
 
 -- packet i is part k of the frame, packet i + 1 is part k + 1, and so on
 abbrev pub AreParts : Settings → Meaning → Sender → ℕ → SentFrame → ℕ → ℕ → ℕ → List CarriedPart → Type 0
@@ -67,6 +72,28 @@ pub record Travels (settings : Settings) (codec : Meaning) (sender : Sender) (f 
   pub joins : codec.join (map (λ carried. carried.part) parts) ≡ Ok frame.bytes
   pub key : (frame.key ≡ true) ↔ ((carried : CarriedPart) × Contains parts carried × (carried.part.key ≡ true))
 
+-- a packet is media with this text
+abbrev pub HasText : List ℕ → SentPacket → Type 0
+HasText text (Media f k other) = other ≡ text
+HasText text _ = ⊥
+
+-- this payload of packet i, a FEC packet, is true (RFC 5109 8). It protects media packets alone; they lie before it, as
+-- those of each payload that reads do
+pub record IsTrueFec (sender : Sender) (i : ℕ) (payload : List ℕ) : Type 0 where
+  -- it is octets, each below 256, that read under the packet's sequence number (RFC 5109 7.3, 7.4)
+  pub says : Payload
+  pub below : AreOctets payload
+  pub spells : IsPayload payload (wire_of sender i) says
+  -- SN base is the sequence number of so many places before the packet, fewer than 32,768
+  pub back : ℕ
+  pub near : back < HALF_SPACE
+  pub base_is : says.base ≡ (wire_of sender i + 65536 - back) % 65536
+  -- it is the parity of just the texts that its level 0 names, each with its offset from SN base
+  pub texts : Texts
+  pub true_is : IsTrue says texts
+  -- and each of these is the text of the media packet there
+  pub protects : All (λ t. (j : ℕ) × (j + back ≡ i + t.0) × IsSomeAnd (slice_get sender.packets j) (HasText t.1)) texts
+
 pub record HonestSender (settings : Settings) (codec : Meaning) (sender : Sender) : Type 0 where
   pub begins : sender.first_wire < 65536
   -- the place of each frame's first packet, and what its packets carry
@@ -77,15 +104,20 @@ pub record HonestSender (settings : Settings) (codec : Meaning) (sender : Sender
       (λ frame. Travels settings codec sender f frame (place f) (parts f))
   -- frame after frame, in the order of the frames
   pub in_order : (f g : ℕ) → f < g → g < length sender.frames → place f + length (parts f) ≤ place g
-  -- and each other packet is empty
+  -- each other packet is a FEC packet or empty
   pub no_other : (i : ℕ) → i < length sender.packets →
-      (slice_get sender.packets i ≡ Some Empty)
+      IsSomeAnd (slice_get sender.packets i) IsNoPart
       ⊎ ((f : ℕ) × (f < length sender.frames) × (place f ≤ i) × (i < place f + length (parts f)))
+  -- and each FEC packet is true
+  pub parity : (i : ℕ) (payload : List ℕ) → slice_get sender.packets i ≡ Some (Fec payload) →
+      IsTrueFec sender i payload
   -- the first frame is a keyframe
   pub from_key : IfSome (slice_get sender.frames 0) (λ frame. frame.key ≡ true)
   -- each reference of a frame lies in its chain
   pub references : (f : ℕ) →
       IfSome (slice_get sender.frames f) (λ frame. All (λ g. InChain sender f g) frame.references)
+  -- all frames have layers, by the rules, or none has
+  pub layers : LayersAreRight sender.frames
   -- frames beside each other have different timestamps
   pub apart : (f : ℕ) → IfSome (slice_get sender.frames f)
       (λ frame. IfSome (slice_get sender.frames (f + 1)) (λ after. frame.ts ≢ after.ts))

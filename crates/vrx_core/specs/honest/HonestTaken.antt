@@ -1,7 +1,7 @@
 -- What a receiver takes and keeps in an honest call, said in the sender's terms. A datagram of the sender is taken
--- exactly if its packet is in reach, and was neither taken before nor given up: the receiver doesn't wait any longer
--- for a packet that it gave up, and drops it if it comes.
-use Rattle.std.specs.Prelude.{◌≡◌, ℕ, ◌+◌, ◌<◌, ◌↔◌, true, List, [], ◌∷◌, slice_get, Contains, Some, None, IsSomeAnd}
+-- exactly if its packet is in reach, and was neither taken before nor repaired nor given up: the receiver doesn't wait
+-- any longer for a packet that it gave up, and drops it if it comes.
+use Rattle.std.specs.Prelude.{◌≡◌, ℕ, ◌+◌, ◌<◌, ◌↔◌, true, List, [], ◌∷◌, slice_get, Some, None, IsSomeAnd}
 use Rattle.vrx_codec.specs.Meaning.{Meaning}
 use Rattle.vrx_num.specs.declared.limits.TheConstants.{WINDOW, HALF_SPACE}
 use Rattle.vrx_window.specs.Window.{at, is_available}
@@ -12,7 +12,7 @@ use Rattle.vrx_core.specs.honest.Sender.{Sender}
 use Rattle.vrx_core.specs.honest.WireForm.{content_sent}
 use Rattle.vrx_core.specs.honest.HonestSender.{HonestSender}
 use Rattle.vrx_core.specs.honest.HonestNetwork.{Origin, FromSender, Elsewhere, HonestNetwork, greatest, takes, packets_taken}
-use Rattle.vrx_core.specs.honest.Ready.{IsNumber}
+pub use Rattle.vrx_core.specs.honest.Number.{HasCome, IsNumber, IsRepaired}
 use Rattle.vrx_core.specs.declared.settings.Settings.{Settings}
 use Rattle.vrx_core.specs.declared.event.Event.{Event}
 use Rattle.vrx_core.specs.declared.event.Event.TheVariants.{Datagram, Tick, Pull}
@@ -28,16 +28,18 @@ abbrev pub WasGivenUp : Settings → Meaning → Sender → List Event → List 
 WasGivenUp settings codec sender h origins i = (n : ℕ) × IsNumber sender (packets_taken settings codec h origins) i n
     × (is_lost (snapshots settings codec h) n ≡ true)
 
--- packet i is one to take, after a history: it is in reach, and was neither taken before nor given up
+-- packet i is one to take, after a history: it is in reach, and was neither taken before nor repaired nor given up
 pub record IsToTake (settings : Settings) (codec : Meaning) (sender : Sender) (h : List Event) (origins : List Origin)
     (i : ℕ) : Type 0 where
   pub in_reach : IsInReach i (packets_taken settings codec h origins)
-  pub not_taken : Contains (packets_taken settings codec h origins) i → ⊥
+  pub not_come : HasCome settings codec sender h origins i → ⊥
   pub not_given_up : WasGivenUp settings codec sender h origins i → ⊥
 
--- packet i is one to keep: it was taken, and lies fewer than 2,048 places below the greatest packet taken
-abbrev pub IsToKeep : ℕ → List ℕ → Type 0
-IsToKeep i js = Contains js i × (greatest js < i + WINDOW)
+-- packet i is one to keep, after a history: it was taken or repaired, and lies fewer than 2,048 places below the
+-- greatest packet taken
+abbrev pub IsToKeep : Settings → Meaning → Sender → List Event → List Origin → ℕ → Type 0
+IsToKeep settings codec sender h origins i =
+    HasCome settings codec sender h origins i × (greatest (packets_taken settings codec h origins) < i + WINDOW)
 
 -- packet i is available after a history, under its number and with its content
 abbrev pub IsKeptAt : Settings → Meaning → Sender → List Event → List Origin → ℕ → Type 0
@@ -50,11 +52,11 @@ pub record KeepsRightly (settings : Settings) (codec : Meaning) (sender : Sender
     (origins : List Origin) : Type 0 where
   -- a packet is available, under its number and with its content, exactly if it is one to keep
   pub kept : (i : ℕ) → IsKeptAt settings codec sender h origins i
-      ↔ IsToKeep i (packets_taken settings codec h origins)
+      ↔ IsToKeep settings codec sender h origins i
   -- an available number is that of a packet to keep
   pub only : (n : ℕ) → is_available n (latest (snapshots settings codec h)).window.packets ≡ true →
       (i : ℕ) × IsNumber sender (packets_taken settings codec h origins) i n
-      × IsToKeep i (packets_taken settings codec h origins)
+      × IsToKeep settings codec sender h origins i
 
 -- what a datagram that brings packet i of the sender meets after a history
 pub record TakesPacket (settings : Settings) (codec : Meaning) (sender : Sender) (h : List Event)

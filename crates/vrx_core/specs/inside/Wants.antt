@@ -12,6 +12,7 @@ use Rattle.vrx_asks.specs.declared.ask.Ask.{Ask}
 use Rattle.vrx_window.specs.Window.{Contents, after_giving_up, is_dead, is_inside, newest_with, would_of}
 use Rattle.vrx_window.specs.declared.held.Held.{Held}
 use Rattle.vrx_window.specs.declared.placing.Placing.TheVariants.{Fresh}
+use Rattle.vrx_frames.specs.Completed.{is_among}
 use Rattle.vrx_frames.specs.Run.{is_passed}
 use Rattle.vrx_core.specs.machine.GivenUp.{numbers_below, numbers_left}
 use Rattle.vrx_core.specs.relation.StandsFor.{Wanted}
@@ -59,11 +60,20 @@ gap_from (Some before) after = max (before + 1) (after + 1 - WINDOW)
 abbrev pub gap_of : Option ℕ → ℕ → List ℕ
 gap_of newest n = numbers_below (gap_from newest (newest_with newest n)) (newest_with newest n)
 
--- the missing numbers, once a packet was taken
+-- the asks without those for these numbers, one after the other
+abbrev pub without_all : List ℕ → List Ask → List Ask
+without_all [] asks = asks
+without_all (n ∷ ns) asks = without_all ns (without n asks)
+
+-- the missing numbers, once a packet was taken and its repairs were made
 abbrev pub asks_taken : (now : ℕ) → Arrival → Option ℕ → List Ask → List Ask
-asks_taken now arrival front asks =
-    with_all_missing now (gap_of arrival.newest arrival.number)
-    (beyond_front front (beyond (newest_with arrival.newest arrival.number - WINDOW) (without arrival.number asks)))
+asks_taken now arrival front asks = without_all arrival.repaired
+    (with_all_missing now (gap_of arrival.newest arrival.number)
+    (beyond_front front (beyond (newest_with arrival.newest arrival.number - WINDOW) (without arrival.number asks))))
+
+-- the numbers that it asks for: those that it makes missing, unless they were repaired
+abbrev pub asks_for : Arrival → List ℕ
+asks_for arrival = filter (λ n. not (is_among arrival.repaired n)) (gap_of arrival.newest arrival.number)
 
 -- n isn't answered by keyframes that begin at these numbers, if there are any
 abbrev pub is_open : (standing pulled : Option ℕ) → ℕ → Bool
@@ -158,7 +168,12 @@ wanted_with now front key (Some arrival) wanted = wanted_taken now arrival front
 -- the numbers that it asks for
 abbrev pub asked_with : Option Arrival → List ℕ
 asked_with None = []
-asked_with (Some arrival) = gap_of arrival.newest arrival.number
+asked_with (Some arrival) = asks_for arrival
+
+-- the numbers that it repaired
+abbrev pub repaired_with : Option Arrival → List ℕ
+repaired_with None = []
+repaired_with (Some arrival) = arrival.repaired
 
 -- whether it asks for a keyframe
 abbrev pub key_with : (now : ℕ) → (key : Option ℕ) → Option Arrival → Wanted → Bool

@@ -50,13 +50,14 @@ abbrev pub AskedAreMissingHolds : Type 0
 AskedAreMissingHolds = (settings : Settings) (codec : Meaning) (h : List Event) (n : ℕ)
     → Contains (latest (snapshots settings codec h)).asked n → IsMissing (snapshots settings codec h) n
 
--- a number that was given up stays so after one event more, and no datagram is taken under it
+-- a number that was given up stays so after one event more, no datagram is taken under it, and no event repairs it
 abbrev pub LostStaysHolds : Type 0
 LostStaysHolds =
     (settings : Settings) (codec : Meaning) (h : List Event) (n : ℕ) → is_lost (snapshots settings codec h) n ≡ true
     → ((e : Event) → is_lost (snapshots settings codec (e ∷ h)) n ≡ true)
     × ((octets : List ℕ) (content : Content) →
     verdict settings codec (latest (snapshots settings codec h)).window octets ≢ Ok (n, content))
+    × ((e : Event) → ¬ Contains (latest (snapshots settings codec (e ∷ h))).repaired n)
 
 -- of two events that ask for a keyframe the later comes at least 300 ms after the earlier, unless a keyframe completed
 -- after the earlier, up to the later

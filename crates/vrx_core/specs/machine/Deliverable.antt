@@ -1,16 +1,19 @@
--- What a pull answers. No case tells of a run with layers that isn't key: none is deliverable.
-use Rattle.std.specs.Prelude.{ℕ, ◌-◌, Bool, ◌&&◌, ◌||◌, nat_lt, if◌then◌else◌, List, [], ◌∷◌, filter, Option, Some, None, is_some, is_none}
-use Rattle.vrx_frames.specs.Run.{Run, is_passed, stands}
+-- What a pull answers.
+use Rattle.std.specs.Prelude.{ℕ, Bool, ◌&&◌, nat_lt, if◌then◌else◌, List, [], ◌∷◌, filter, map, Option, Some, None}
+use Rattle.vrx_refs.specs.References.{Judgement, judge}
+use Rattle.vrx_buffer.specs.Frames.{is_ready}
+use Rattle.vrx_frames.specs.Run.{Run, stands, summary_of}
+use Rattle.vrx_core.specs.machine.Snapshot.{last_pulled}
+use Rattle.vrx_core.specs.machine.Told.{Told, sightings}
 
--- a run without layers that isn't key follows the last frame pulled, if the number before its first is passed
-abbrev pub is_evident : (pulled front : Option ℕ) → Run → Bool
-is_evident pulled front run = is_some pulled && is_passed front (run.first - 1)
+-- how far a run is from being decoded: to which of the pictures that were told it refers, and which of them weren't
+-- pulled yet
+abbrev pub judged : Told → (pulled : List Run) → (front : Option ℕ) → Run → Judgement
+judged told pulled front run = judge (sightings told) (map summary_of pulled) front (summary_of run)
 
--- a run is deliverable if it stands, and is a keyframe, or has no layers and follows the last frame pulled; pulled is
--- the last number of that frame
-abbrev pub is_deliverable : (pulled front : Option ℕ) → Run → Bool
-is_deliverable pulled front run =
-    stands pulled run && (run.key || (is_none run.layers && is_evident pulled front run))
+-- a run is deliverable if it stands, and is ready: it refers to nothing, or to what is known and was pulled
+abbrev pub is_deliverable : Told → (pulled : List Run) → (front : Option ℕ) → Run → Bool
+is_deliverable told pulled front run = stands (last_pulled pulled) run && is_ready (judged told pulled front run)
 
 -- the run with the lesser first number
 abbrev pub lesser : Run → Option Run → Run
@@ -23,5 +26,5 @@ least [] = None
 least (run ∷ runs) = Some (lesser run (least runs))
 
 -- the answer: the deliverable run with the least first number
-abbrev pub answer : (pulled front : Option ℕ) → List Run → Option Run
-answer pulled front runs = least (filter (is_deliverable pulled front) runs)
+abbrev pub answer : Told → (pulled : List Run) → (front : Option ℕ) → List Run → Option Run
+answer told pulled front runs = least (filter (is_deliverable told pulled front) runs)

@@ -1,5 +1,5 @@
 -- The machine: the reply to an event after a history, and what is left after it.
-use Rattle.std.specs.Prelude.{ℕ, Bool, true, false, not, List, [], ◌∷◌, Option, Some, None, Result, Ok, Err}
+use Rattle.std.specs.Prelude.{ℕ, Bool, true, false, not, List, [], ◌∷◌, map, Option, Some, None, Result, Ok, Err}
 use Rattle.std.specs.List.{list_any}
 use Rattle.arrayvec.specs.ArrayVec.{ArrayVec}
 use Rattle.vrx_rtcp.specs.Feedback.{nack_octets, pli_octets}
@@ -7,9 +7,12 @@ use Rattle.vrx_rtcp.specs.declared.feedback.Feedback.{Feedback}
 use Rattle.vrx_codec.specs.Meaning.{Meaning}
 use Rattle.vrx_window.specs.Content.{Content}
 use Rattle.vrx_window.specs.Content as contents
-use Rattle.vrx_window.specs.Window.{after_placing, with_number}
+use Rattle.vrx_window.specs.Window.{Contents, after_placing, with_number}
 use Rattle.vrx_frames.specs.Run.{Run}
 use Rattle.vrx_frames.specs.Front.{front_after}
+use Rattle.vrx_repair.specs.Plan.{repairs_in}
+use Rattle.vrx_repair.specs.Source.{Source, source_of}
+use Rattle.vrx_repair.specs.Step.{with_repairs}
 pub use Rattle.vrx_core.specs.machine.Snapshot.{Snapshot, opening, latest, times, last_pulled}
 use Rattle.vrx_core.specs.machine.Snapshot.{moved}
 use Rattle.vrx_core.specs.machine.GivenUp.{lost_by_packet}
@@ -18,6 +21,7 @@ use Rattle.vrx_core.specs.machine.KeyRequest.{completes_key, is_answered, is_nee
 use Rattle.vrx_core.specs.machine.Verdict.{verdict}
 use Rattle.vrx_core.specs.machine.Standing.{standing_of}
 use Rattle.vrx_core.specs.machine.Deliverable.{answer}
+use Rattle.vrx_core.specs.machine.Told.{told_with}
 use Rattle.vrx_core.specs.declared.settings.Settings.{Settings}
 use Rattle.vrx_core.specs.declared.event.Event.{Event}
 use Rattle.vrx_core.specs.declared.event.Event.TheVariants.{Datagram, Tick, Pull}
@@ -43,12 +47,34 @@ after_settling codec past s =
     let front : Option ℕ = front_after s.front last s.window.packets in
     record s {
       front = front;
-      standing = standing_of codec (s.window.packets ∷ times past) front last s.window.packets;
+      standing = standing_of codec s.told (s.window.packets ∷ times past) front last s.window.packets;
     }
 
--- What a datagram leaves. One that isn't taken moves the clock only. One that is taken is placed; it gives up the
--- numbers that leave the window, and asks for those that are missing now and weren't asked for; and it asks for a
--- keyframe if it gives up a number that isn't answered.
+-- the source whose packets are repaired (RFC 5109 9)
+abbrev pub source_in : Settings → Meaning → Source
+source_in settings codec = source_of codec settings.media_ssrc settings.media_type
+
+-- a window with these repairs
+abbrev pub with_repaired : List (ℕ × Content) → Contents Content → Contents Content
+with_repaired rebuilt window = record window { packets = with_repairs rebuilt window.packets }
+
+-- a packet was placed in this window, and these are its repairs: all of them are available, and the places that they
+-- told are known
+abbrev pub after_repairs : Meaning → ℕ × Content → Contents Content → List (ℕ × Content) → Snapshot → Snapshot
+after_repairs codec packet placed rebuilt s = record s {
+  window = with_repaired rebuilt placed;
+  told = told_with codec (packet ∷ rebuilt) s.told;
+  repaired = map (λ repair. repair.0) rebuilt;
+}
+
+-- A packet is placed, and its repairs are made: those of the window in which it is placed.
+abbrev pub after_packet : Source → ℕ → Content → Snapshot → Snapshot
+after_packet source n content s = let placed : Contents Content = after_placing n content s.window in
+    after_repairs source.codec (n, content) placed (repairs_in source placed) s
+
+-- What a datagram leaves. One that isn't taken moves the clock only. One that is taken is placed, and its repairs are
+-- made; it gives up the numbers that leave the window, and asks for those that are missing now and weren't asked for;
+-- and it asks for a keyframe if it gives up a number that isn't answered.
 abbrev pub with_requests : List Snapshot → Snapshot → Snapshot
 with_requests past s =
     let lost : List ℕ = lost_by_packet past s in
@@ -59,10 +85,10 @@ with_requests past s =
       key_completed = completes_key (latest past).standing s.standing;
     })
 
-abbrev pub after_datagram : Meaning → List Snapshot → ℕ → Result (ℕ × Content) NotTaken → Snapshot
-after_datagram codec past moment (Err left) = moved (latest past) moment
-after_datagram codec past moment (Ok (n, content)) = let s : Snapshot = moved (latest past) moment in
-    with_requests past (after_settling codec past (record s { window = after_placing n content s.window }))
+abbrev pub after_datagram : Source → List Snapshot → ℕ → Result (ℕ × Content) NotTaken → Snapshot
+after_datagram source past moment (Err left) = moved (latest past) moment
+after_datagram source past moment (Ok (n, content)) =
+    with_requests past (after_settling source.codec past (after_packet source n content (moved (latest past) moment)))
 
 -- numbers put in their places among numbers that rise
 abbrev pub with_numbers : List ℕ → List ℕ → List ℕ
@@ -90,12 +116,12 @@ after_pull codec past moment (Some run) = let s : Snapshot = moved (latest past)
 
 -- the run that a pull gives: the least that is deliverable
 abbrev pub next_run : Snapshot → Option Run
-next_run s = answer (last_pulled s.pulled) s.front s.standing
+next_run s = answer s.told s.pulled s.front s.standing
 
 -- what an event leaves
 abbrev pub next : Settings → Meaning → List Snapshot → Event → Snapshot
 next settings codec past (Datagram moment octets) =
-    after_datagram codec past moment (verdict settings codec (latest past).window octets)
+    after_datagram (source_in settings codec) past moment (verdict settings codec (latest past).window octets)
 next settings codec past (Tick moment) = after_tick settings past moment
 next settings codec past (Pull moment) = after_pull codec past moment (next_run (latest past))
 
@@ -114,10 +140,6 @@ answer_taken n contents.Empty = Empty n
 abbrev pub what_of : Result (ℕ × Content) NotTaken → What
 what_of (Err left) = answer_of left
 what_of (Ok (n, content)) = answer_taken n content
-
--- the numbers repaired by an event that led from the past to this snapshot: there is no repair
-abbrev pub repaired_by : List Snapshot → Snapshot → List ℕ
-repaired_by past s = []
 
 -- the NACK of these numbers, unless there is none (RFC 4585 6.2.1)
 abbrev pub nack_for : Settings → List ℕ → Option (ArrayVec ℕ)
@@ -158,7 +180,7 @@ abbrev pub reply_between : Settings → Meaning → List Snapshot → Snapshot �
 reply_between settings codec past s (Datagram moment octets) =
     ToDatagram (record {
       what = what_of (verdict settings codec (latest past).window octets);
-      repaired = repaired_by past s;
+      repaired = s.repaired;
       feedback = feedback_of settings s;
     })
 reply_between settings codec past s (Tick moment) = ToTick (feedback_of settings s)

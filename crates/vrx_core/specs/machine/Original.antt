@@ -1,6 +1,6 @@
 -- What octets are, whatever came before: the rows of the table of reasons that ask for nothing else.
-use Rattle.std.specs.Prelude.{ℕ, Bool, false, ◌||◌, ◌==◌, nat_lt, if◌then◌else◌, List, [], ◌∷◌, length, Option, None, Some, is_some, Result, Ok, Err}
-use Rattle.std.specs.Option.{option_map_or}
+use Rattle.std.specs.Prelude.{ℕ, Bool, false, ◌||◌, ◌==◌, nat_lt, if◌then◌else◌, List, [], ◌∷◌, length, Option, None, Some, Result, Ok, Err}
+use Rattle.std.specs.Option.{option_and_then, option_map_or}
 use Rattle.std.specs.Result.{result_map_both}
 use Rattle.vrx_num.specs.ResultChain.{◌>>=◌}
 use Rattle.vrx_num.specs.declared.limits.TheConstants.{MOST_OCTETS}
@@ -20,12 +20,15 @@ use Rattle.vrx_wrap.specs.declared.rtx.RtxFault.TheVariants as faults
 use Rattle.vrx_codec.specs.Part.{Part}
 use Rattle.vrx_codec.specs.declared.fault.PartFault.{PartFault}
 use Rattle.vrx_codec.specs.Meaning.{Meaning}
-use Rattle.vrx_window.specs.Content.{Content, Media, Empty}
+use Rattle.vrx_fec.specs.Payload.{Payload}
+use Rattle.vrx_fec.specs.Reading.{reading as fec_reading}
+use Rattle.vrx_fec.specs.declared.fault.FecFault.{FecFault}
+use Rattle.vrx_window.specs.Content.{Content, Media, Fec, Empty}
 use Rattle.vrx_core.specs.machine.Text.{packet_text}
 use Rattle.vrx_core.specs.declared.original.NotTaken.{NotTaken}
 use Rattle.vrx_core.specs.declared.original.NotTaken.TheVariants.{Control, Refused}
 use Rattle.vrx_core.specs.declared.reply.Reason.{Reason}
-use Rattle.vrx_core.specs.declared.reply.Reason.TheVariants.{TooLong, BadRtcp, NotRtp, BadHeader, OtherSsrc, OtherType, NoApt, RtxEmpty, MoreBlocks, BadRed, BadPart, Form}
+use Rattle.vrx_core.specs.declared.reply.Reason.TheVariants.{TooLong, BadRtcp, NotRtp, BadHeader, OtherSsrc, OtherType, NoApt, RtxEmpty, MoreBlocks, BadRed, BadFec, BadPart}
 use Rattle.vrx_core.specs.declared.settings.Red.{Red}
 use Rattle.vrx_core.specs.declared.settings.Rtx.{Rtx}
 use Rattle.vrx_core.specs.declared.settings.Settings.{Settings}
@@ -35,21 +38,15 @@ pub record Original : Type 0 where
   pub wire : ℕ
   pub content : Content
 
--- a payload that isn't empty brings media, with this text, if the codec reads a part of a frame in it. A part with
--- layers isn't taken
+-- a payload that isn't empty brings media, with this text, if the codec reads a part of a frame in it
 abbrev pub part_content : List ℕ → Result Part PartFault → Result Content Reason
 part_content text (Err fault) = Err (BadPart fault.code)
-part_content text (Ok part) = if is_some part.layers then Err Form else Ok (Media text)
+part_content text (Ok part) = Ok (Media text)
 
 -- what a packet with this text and this payload brings: without a payload it is empty
 abbrev pub content_by : Meaning → (text payload : List ℕ) → Result Content Reason
 content_by codec text [] = Ok Empty
 content_by codec text (octet ∷ octets) = part_content text (codec.read (octet ∷ octets))
-
--- what a media packet is: its number, and what it brings
-abbrev pub original_in : Meaning → Packet → Result Original Reason
-original_in codec packet = result_map_both (λ content. record { wire = packet.seq; content = content }) (λ reason. reason)
-    (content_by codec (packet_text packet) packet.payload)
 
 -- the payload type under which RED packets come again, with that of RED, if they do
 abbrev pub red_pair : Option ℕ → Option Red → List (ℕ × ℕ)
@@ -92,22 +89,55 @@ media_packet settings packet =
 abbrev pub as_media : Settings → Packet → List ℕ → Packet
 as_media settings packet payload = record packet { pt = settings.media_type; payload = payload }
 
--- the media packet of a RED packet, by its one block (RFC 2198 3). Without a payload it is an empty packet
-abbrev pub from_block : Settings → Packet → Result Block RedFault → Result Packet Reason
-from_block settings packet (Err reds.Empty) = Ok (as_media settings packet [])
+-- a payload type is that of ULPFEC blocks in RED
+abbrev pub is_fec_type : Settings → ℕ → Bool
+is_fec_type settings pt =
+    option_map_or (λ fec_type. fec_type == pt) (option_and_then (λ red. red.fec_type) settings.red) false
+
+-- what a packet of the media source carries, out of RED: media; or parity, whose payload is that of a FEC packet
+-- (RFC 5109 7)
+pub data Carried : Type 0 where
+  Plain : (packet : Packet) → Carried
+  Parity : (packet : Packet) → Carried
+
+-- what a RED packet carries, by its one block (RFC 2198 3). Without a payload it is an empty packet
+abbrev pub from_block : Settings → Packet → Result Block RedFault → Result Carried Reason
+from_block settings packet (Err reds.Empty) = Ok (Plain (as_media settings packet []))
 from_block settings packet (Err reds.MoreBlocks) = Err MoreBlocks
 from_block settings packet (Ok block) =
-    if block.pt == settings.media_type then Ok (as_media settings packet block.rest) else Err BadRed
+    if block.pt == settings.media_type then Ok (Plain (as_media settings packet block.rest))
+    else if is_fec_type settings block.pt then Ok (Parity (record packet { payload = block.rest }))
+    else Err BadRed
 
--- the packet out of RED, if it is in RED
-abbrev pub out_of_red : Settings → Packet → Result Packet Reason
+-- what a packet carries, out of RED if it is in RED
+abbrev pub out_of_red : Settings → Packet → Result Carried Reason
 out_of_red settings packet =
-    if is_red_type settings packet.pt then from_block settings packet (block_of packet.payload) else Ok packet
+    if is_red_type settings packet.pt then from_block settings packet (block_of packet.payload) else Ok (Plain packet)
 
--- what an RTP packet is: the packet of the media source, out of RED
+-- a FEC payload brings itself, if it reads
+abbrev pub parity_content : List ℕ → Result Payload FecFault → Result Content Reason
+parity_content payload (Err fault) = Err BadFec
+parity_content payload (Ok read) = Ok (Fec payload)
+
+-- what is carried brings; the masks of a FEC payload count from a base beside its packet's sequence number
+abbrev pub content_in : Meaning → Carried → Result Content Reason
+content_in codec (Plain packet) = content_by codec (packet_text packet) packet.payload
+content_in codec (Parity packet) = parity_content packet.payload (fec_reading packet.payload packet.seq)
+
+-- the sequence number of what is carried
+abbrev pub seq_of : Carried → ℕ
+seq_of (Plain packet) = packet.seq
+seq_of (Parity packet) = packet.seq
+
+-- what a packet is: its number, and what it brings
+abbrev pub original_in : Meaning → Carried → Result Original Reason
+original_in codec carried = result_map_both (λ content. record { wire = seq_of carried; content = content })
+    (λ reason. reason) (content_in codec carried)
+
+-- what an RTP packet is: what the packet of the media source carries, out of RED
 abbrev pub original_of : Settings → Meaning → Packet → Result Original Reason
 original_of settings codec packet =
-    media_packet settings packet >>= λ sent. out_of_red settings sent >>= λ plain. original_in codec plain
+    media_packet settings packet >>= λ sent. out_of_red settings sent >>= λ carried. original_in codec carried
 
 -- why octets are refused that are no packet (RFC 3550 5.1)
 abbrev pub fault_reason : RtpFaultKind → Reason

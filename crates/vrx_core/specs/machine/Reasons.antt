@@ -1,5 +1,5 @@
 -- When a datagram is taken, and what becomes of it otherwise.
-use Rattle.std.specs.Prelude.{◌≡◌, ◌≢◌, ◌↔◌, ◌⊎◌, ℕ, ◌+◌, ◌<◌, ◌≤◌, true, false, List, [], length, Option, Some, None, IfSome, IsSomeAnd, Result, Ok, Err}
+use Rattle.std.specs.Prelude.{◌≡◌, ◌≢◌, ◌↔◌, ◌⊎◌, ℕ, ◌+◌, ◌<◌, ◌≤◌, true, false, List, [], length, Option, Some, IfSome, IsSomeAnd, Result, Ok, Err}
 use Rattle.vrx_num.specs.Extended.{IsHalfAway, extended_number}
 use Rattle.vrx_num.specs.declared.limits.TheConstants.{WINDOW, MOST_OCTETS, HALF_SPACE}
 use Rattle.vrx_rtp.specs.Packet.{Packet}
@@ -14,12 +14,12 @@ use Rattle.vrx_rtcp.specs.declared.fault.RtcpFault.{RtcpFault}
 use Rattle.vrx_wrap.specs.Red.{Block, IsRed, HasMore}
 use Rattle.vrx_wrap.specs.Rtx.{IsOriginal, IsRtxType}
 use Rattle.vrx_codec.specs.Part.{Part}
-use Rattle.vrx_codec.specs.declared.part.Layers.{Layers}
 use Rattle.vrx_codec.specs.declared.fault.PartFault.{PartFault}
 use Rattle.vrx_codec.specs.Meaning.{Meaning}
+use Rattle.vrx_fec.specs.Payload.{Payload, IsPayload}
 use Rattle.vrx_window.specs.Content.{Content, Media, Fec, Empty}
 use Rattle.vrx_window.specs.Window.{Contents, is_available, is_dead}
-use Rattle.vrx_core.specs.machine.Original.{apt_of, as_media}
+use Rattle.vrx_core.specs.machine.Original.{Carried, Plain, Parity, apt_of, as_media, seq_of}
 use Rattle.vrx_core.specs.machine.Text.{packet_text}
 use Rattle.vrx_core.specs.machine.Verdict.{verdict}
 use Rattle.vrx_core.specs.declared.settings.Rtx.{Rtx}
@@ -28,7 +28,7 @@ use Rattle.vrx_core.specs.declared.original.NotTaken.{NotTaken}
 use Rattle.vrx_core.specs.declared.original.NotTaken.TheVariants.{Control, Refused}
 use Rattle.vrx_core.specs.declared.reply.What.{What}
 use Rattle.vrx_core.specs.declared.reply.What.TheVariants as whats
-use Rattle.vrx_core.specs.declared.reply.Reason.TheVariants.{TooLong, BadRtcp, NotRtp, BadHeader, OtherSsrc, OtherType, NoApt, RtxEmpty, MoreBlocks, BadRed, BadPart, Form, TooFar, TooOld, Dead, Repeat}
+use Rattle.vrx_core.specs.declared.reply.Reason.TheVariants.{TooLong, BadRtcp, NotRtp, BadHeader, OtherSsrc, OtherType, NoApt, RtxEmpty, MoreBlocks, BadRed, BadFec, BadPart, TooFar, TooOld, Dead, Repeat}
 
 -- a datagram isn't too long, and is RTCP
 pub record IsControl (octets : List ℕ) : Type 0 where
@@ -48,6 +48,10 @@ pub record IsRead (octets : List ℕ) (packet : Packet) : Type 0 where
 -- a payload type is that of RED
 abbrev pub IsRedType : Settings → ℕ → Type 0
 IsRedType settings pt = IsSomeAnd settings.red (λ red. red.red_type ≡ pt)
+
+-- a payload type is that of the ULPFEC blocks in RED
+abbrev pub IsFecType : Settings → ℕ → Type 0
+IsFecType settings pt = IsSomeAnd settings.red (λ red. red.fec_type ≡ Some pt)
 
 -- a packet has the media SSRC, and the payload type of media or of RED
 pub record IsDirect (settings : Settings) (packet : Packet) : Type 0 where
@@ -89,11 +93,26 @@ abbrev pub IsOrInRed : Settings → Packet → Packet → Type 0
 IsOrInRed settings sent plain =
     ((IsRedType settings sent.pt → ⊥) × (plain ≡ sent)) ⊎ IsInRed settings sent plain
 
--- octets bring this media packet of the stream
-pub record IsOfStream (settings : Settings) (octets : List ℕ) (packet : Packet) : Type 0 where
+-- a packet is in RED, and this is the FEC packet in it: its payload is that of the one block, whose type is that of FEC
+-- and not that of media (RFC 5109 7)
+pub record IsFecInRed (settings : Settings) (sent parity : Packet) : Type 0 where
+  pub red : IsRedType settings sent.pt
+  pub block : Block
+  pub has : IsRed sent.payload block
+  pub other : block.pt ≢ settings.media_type
+  pub fec : IsFecType settings block.pt
+  pub same : parity ≡ record sent { payload = block.rest }
+
+-- a packet of the media source carries this: it is this media packet or has it in RED, or has this FEC packet in RED
+abbrev pub CarriesOut : Settings → Packet → Carried → Type 0
+CarriesOut settings sent (Plain packet) = IsOrInRed settings sent packet
+CarriesOut settings sent (Parity packet) = IsFecInRed settings sent packet
+
+-- octets bring this packet of the stream, a media packet or a FEC packet
+pub record IsOfStream (settings : Settings) (octets : List ℕ) (carried : Carried) : Type 0 where
   pub sent : Packet
   pub is : IsSent settings octets sent
-  pub plain : IsOrInRed settings sent packet
+  pub out : CarriesOut settings sent carried
 
 -- octets that are for RTP have this fault as such
 pub record IsMisread (octets : List ℕ) (what : RtpFaultKind) : Type 0 where
@@ -109,26 +128,23 @@ pub record HasBadPart (codec : Meaning) (payload : List ℕ) (code : ℕ) : Type
   pub reads : codec.read payload ≡ Err fault
   pub code_is : fault.code ≡ code
 
--- a payload isn't empty, and is a part with layers
-pub record HasLayers (codec : Meaning) (payload : List ℕ) : Type 0 where
-  pub some : payload ≢ []
-  pub part : Part
-  pub layers : Layers
-  pub reads : codec.read payload ≡ Ok part
-  pub has : part.layers ≡ Some layers
-
--- a payload isn't empty, and is a part without layers
-pub record IsPlainPart (codec : Meaning) (payload : List ℕ) : Type 0 where
+-- a payload isn't empty, and is a part
+pub record IsPartOf (codec : Meaning) (payload : List ℕ) : Type 0 where
   pub some : payload ≢ []
   pub part : Part
   pub reads : codec.read payload ≡ Ok part
-  pub plain : part.layers ≡ None
 
--- what a packet brings: media, by its text without padding, if its payload is a part; nothing, if it has no payload
-abbrev pub Brings : Meaning → Packet → Content → Type 0
-Brings codec packet (Media text) = IsPlainPart codec packet.payload × (text ≡ packet_text packet)
-Brings codec packet Empty = packet.payload ≡ []
-Brings codec packet (Fec payload) = ⊥
+-- octets are the payload of the FEC packet of this number (RFC 5109 7.3, 7.4)
+abbrev pub IsFecPayload : List ℕ → ℕ → Type 0
+IsFecPayload octets own = (payload : Payload) × IsPayload octets own payload
+
+-- what a media packet brings: media, by its text without padding, if its payload is a part; nothing, if it has no
+-- payload. A FEC packet brings its payload, if that is one of a FEC packet of its number
+abbrev pub Brings : Meaning → Carried → Content → Type 0
+Brings codec (Plain packet) (Media text) = IsPartOf codec packet.payload × (text ≡ packet_text packet)
+Brings codec (Plain packet) Empty = packet.payload ≡ []
+Brings codec (Parity packet) (Fec payload) = IsFecPayload packet.payload packet.seq × (payload ≡ packet.payload)
+Brings codec carried content = ⊥
 
 -- what each answer means that octets get by themselves
 abbrev pub MeansAside : Settings → Meaning → List ℕ → NotTaken → Type 0
@@ -160,31 +176,32 @@ MeansAside settings codec octets (Refused RtxEmpty) = (packet : Packet) × IsRea
 -- it brings a packet in RED, which has more than one block
 MeansAside settings codec octets (Refused MoreBlocks) =
     (sent : Packet) × IsSent settings octets sent × IsRedType settings sent.pt × HasMore sent.payload
--- it brings a packet in RED, whose one block has another payload type than that of media
+-- it brings a packet in RED, whose one block has another payload type than those of media and of FEC
 MeansAside settings codec octets (Refused BadRed) = (sent : Packet) × IsSent settings octets sent
     × IsRedType settings sent.pt × (block : Block) × IsRed sent.payload block × (block.pt ≢ settings.media_type)
--- it brings a packet of the stream, whose payload isn't empty and is no part: the codec's reader finds a fault of this
--- code
+    × (IsFecType settings block.pt → ⊥)
+-- it brings a FEC packet of the stream: the block is of the FEC type, and reads as no FEC payload
+MeansAside settings codec octets (Refused BadFec) = (packet : Packet) × IsOfStream settings octets (Parity packet)
+    × (IsFecPayload packet.payload packet.seq → ⊥)
+-- it brings a media packet of the stream, whose payload isn't empty and is no part: the codec's reader finds a fault of
+-- this code
 MeansAside settings codec octets (Refused (BadPart code)) =
-    (packet : Packet) × IsOfStream settings octets packet × HasBadPart codec packet.payload code
--- it brings a packet of the stream, whose payload is a part that has layers
-MeansAside settings codec octets (Refused Form) =
-    (packet : Packet) × IsOfStream settings octets packet × HasLayers codec packet.payload
+    (packet : Packet) × IsOfStream settings octets (Plain packet) × HasBadPart codec packet.payload code
 -- no other answer comes so
 MeansAside settings codec octets (Refused _) = ⊥
 
 -- a datagram brings a packet of the stream, and that brings this
-pub record IsBrought (settings : Settings) (codec : Meaning) (octets : List ℕ) (packet : Packet)
+pub record IsBrought (settings : Settings) (codec : Meaning) (octets : List ℕ) (carried : Carried)
     (content : Content) : Type 0 where
-  pub stream : IsOfStream settings octets packet
-  pub brings : Brings codec packet content
+  pub stream : IsOfStream settings octets carried
+  pub brings : Brings codec carried content
 
 -- it has this extended number
 pub record IsNumbered (settings : Settings) (codec : Meaning) (newest : Option ℕ) (octets : List ℕ) (n : ℕ)
     (content : Content) : Type 0 where
-  pub packet : Packet
-  pub brought : IsBrought settings codec octets packet content
-  pub number : extended_number newest packet.seq ≡ Some n
+  pub carried : Carried
+  pub brought : IsBrought settings codec octets carried content
+  pub number : extended_number newest (seq_of carried) ≡ Some n
 
 -- a number lies below the window of the newest number
 abbrev pub IsBelow : Option ℕ → ℕ → Type 0
@@ -194,8 +211,8 @@ IsBelow newest n = IsSomeAnd newest (λ m. n + WINDOW ≤ m)
 abbrev pub Means : Settings → Meaning → Contents Content → List ℕ → Result (ℕ × Content) NotTaken → Type 0
 -- the datagram brings a packet of the stream, whose wire number lies just half of the number space away from the newest
 -- number
-Means settings codec window octets (Err (Refused TooFar)) = (packet : Packet) × (content : Content)
-    × IsBrought settings codec octets packet content × IsHalfAway window.newest packet.seq
+Means settings codec window octets (Err (Refused TooFar)) = (carried : Carried) × (content : Content)
+    × IsBrought settings codec octets carried content × IsHalfAway window.newest (seq_of carried)
 -- it has an extended number, which lies below the window
 Means settings codec window octets (Err (Refused TooOld)) =
     (n : ℕ) × (content : Content) × IsNumbered settings codec window.newest octets n content × IsBelow window.newest n
@@ -214,15 +231,16 @@ Means settings codec window octets (Err left) = MeansAside settings codec octets
 Means settings codec window octets (Ok (n, content)) = IsNumbered settings codec window.newest octets n content
     × (IsBelow window.newest n → ⊥) × (is_dead n window.dead ≡ false) × (is_available n window.packets ≡ false)
 
--- what each answer to a datagram means. It is never answered as FEC
+-- what each answer to a datagram means
 abbrev pub MeansAnswer : Settings → Meaning → Contents Content → List ℕ → What → Type 0
 MeansAnswer settings codec window octets (whats.Media n) =
     (text : List ℕ) × Means settings codec window octets (Ok (n, Media text))
+MeansAnswer settings codec window octets (whats.Fec n) =
+    (payload : List ℕ) × Means settings codec window octets (Ok (n, Fec payload))
 MeansAnswer settings codec window octets (whats.Empty n) = Means settings codec window octets (Ok (n, Empty))
 MeansAnswer settings codec window octets whats.Rtcp = Means settings codec window octets (Err Control)
 MeansAnswer settings codec window octets (whats.Dropped reason) =
     Means settings codec window octets (Err (Refused reason))
-MeansAnswer settings codec window octets (whats.Fec n) = ⊥
 
 -- a verdict comes exactly if its meaning holds, of octets, each below 256. A newest number of 32,768 or more has
 -- no number below 0 nearer to it than half of the number space

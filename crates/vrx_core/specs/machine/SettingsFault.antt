@@ -5,7 +5,7 @@ use Rattle.std.specs.Option.{IsSome, IsNone, option_map, option_and_then}
 use Rattle.vrx_num.specs.declared.limits.TheConstants.{LONGEST_INTERVAL}
 use Rattle.vrx_core.specs.declared.settings.Settings.{Settings}
 use Rattle.vrx_core.specs.declared.settings.NewFault.{NewFault}
-use Rattle.vrx_core.specs.declared.settings.NewFault.TheVariants.{BadType, SameType, SameSsrc, RedMissing, BadInterval, Later, NoMemory}
+use Rattle.vrx_core.specs.declared.settings.NewFault.TheVariants.{BadType, SameType, SameSsrc, RedMissing, BadInterval, NoMemory}
 
 -- the values that are there, of some that may be given
 abbrev pub values_in : List (Option ℕ) → List ℕ
@@ -48,8 +48,6 @@ Says settings SameSsrc = HasEqual (ssrcs_of settings)
 Says settings RedMissing = IsSome (option_and_then (λ rtx. rtx.red_rtx_type) settings.rtx) × IsNone settings.red
 -- the interval is 0 or above 60,000 milliseconds
 Says settings BadInterval = (settings.interval ≡ 0) ⊎ (LONGEST_INTERVAL < settings.interval)
--- a payload type of FEC is given, which the receiver doesn't take
-Says settings Later = IsSome (option_and_then (λ red. red.fec_type) settings.red)
 -- `NoMemory` says nothing of settings
 Says settings NoMemory = ⊥
 
@@ -62,8 +60,6 @@ IsFault settings RedMissing =
     (¬ Says settings BadType) × (¬ Says settings SameType) × (¬ Says settings SameSsrc) × Says settings RedMissing
 IsFault settings BadInterval = (¬ Says settings BadType) × (¬ Says settings SameType) × (¬ Says settings SameSsrc)
     × (¬ Says settings RedMissing) × Says settings BadInterval
-IsFault settings Later = (¬ Says settings BadType) × (¬ Says settings SameType) × (¬ Says settings SameSsrc)
-    × (¬ Says settings RedMissing) × (¬ Says settings BadInterval) × Says settings Later
 IsFault settings NoMemory = ⊥
 
 -- the same, as tests
@@ -83,9 +79,6 @@ lacks_red settings = is_some (option_and_then (λ rtx. rtx.red_rtx_type) setting
 abbrev pub is_bad_interval : ℕ → Bool
 is_bad_interval interval = (interval == 0) || nat_lt LONGEST_INTERVAL interval
 
-abbrev pub is_later : Settings → Bool
-is_later settings = is_some (option_and_then (λ red. red.fec_type) settings.red)
-
 -- a fault, if its test says so, or else what the tests after it give
 abbrev pub first_of : Bool → NewFault → Option NewFault → Option NewFault
 first_of test fault others = if test then Some fault else others
@@ -97,5 +90,4 @@ fault_of settings =
     first_of (has_equal (types_of settings)) SameType (
     first_of (has_equal (ssrcs_of settings)) SameSsrc (
     first_of (lacks_red settings) RedMissing (
-    first_of (is_bad_interval settings.interval) BadInterval (
-    first_of (is_later settings) Later None)))))
+    first_of (is_bad_interval settings.interval) BadInterval None))))

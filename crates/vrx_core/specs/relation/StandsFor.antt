@@ -1,34 +1,40 @@
 -- The engine as contracts see it, and the history that it stands for.
-use Rattle.std.specs.Prelude.{◌≡◌, ℕ, Bool, if◌then◌else◌, List, [], ◌∷◌, map, length, Option, Some, None}
+use Rattle.std.specs.Prelude.{◌≡◌, ℕ, Bool, true, if◌then◌else◌, List, [], ◌∷◌, map, length, Option, Some, None}
 use Rattle.std.specs.List.{filter, list_any}
 use Rattle.vrx_asks.specs.declared.ask.Ask.{Ask}
 use Rattle.vrx_codec.specs.Meaning.{Meaning}
 use Rattle.vrx_codec.specs.declared.run.Run.{Run as RunSummary}
+use Rattle.vrx_refs.specs.Finder.{Finder}
+use Rattle.vrx_refs.specs.Knows.{Knows}
 use Rattle.vrx_window.specs.Content.{contents_of}
-use Rattle.vrx_window.specs.Window.{Contents}
+use Rattle.vrx_window.specs.Sound.{place_at}
+use Rattle.vrx_window.specs.Window.{Contents, is_available}
 use Rattle.vrx_window.specs.declared.held.Held.{Held}
 use Rattle.vrx_frames.specs.Run.{Packets, Run, summary_of}
 use Rattle.vrx_frames.specs.Shape.{shape_of}
 use Rattle.vrx_frames.specs.Completed.{Known}
 use Rattle.vrx_frames.specs.declared.shape.Shape.{Shape}
 use Rattle.vrx_core.specs.machine.History.{now}
+use Rattle.vrx_core.specs.machine.Told.{newest_picture, place_told, sightings}
 use Rattle.vrx_core.specs.machine.Standing.{began_after_end}
 use Rattle.vrx_core.specs.machine.GivenUp.{all_lost}
 use Rattle.vrx_core.specs.machine.Request.{missing, requests}
 use Rattle.vrx_core.specs.machine.KeyRequest.{open_request}
 use Rattle.vrx_core.specs.machine.Machine.{Snapshot, latest, last_pulled, snapshots, times}
-use Rattle.vrx_core.specs.relation.Order.{greatest_of}
+use Rattle.vrx_buffer.specs.Order.{greatest_of}
 use Rattle.vrx_core.specs.declared.settings.Settings.{Settings}
 use Rattle.vrx_core.specs.declared.event.Event.{Event}
 
 -- What an engine assembles frames of. It keeps no history: of what was available before, only what is known of the
--- numbers in the window.
+-- numbers in the window, the newest picture, and what the finder knows of pictures.
 pub record Assembly : Type 0 where
   pub settings : Settings
   pub events : ℕ
   pub clock : ℕ
   pub window : Contents Held
+  pub pictures : Option ℕ
   pub known : Known
+  pub finder : Finder
   pub frames : List RunSummary
   pub last_pulled : Option ℕ
   pub front : Option ℕ
@@ -47,10 +53,20 @@ pub record KnowsPast (codec : Meaning) (known : Known) (past : List Snapshot) : 
   pub arrivals : known.arrivals ≡ shapes_of codec (latest past).window.packets
   pub began : known.began ≡ filter (began_after_end (times past)) (numbers_of (latest past).window.packets)
 
+-- the places kept are those told: the newest picture is the greatest told, and each available number has the place
+-- that it told
+pub record KnowsPlaces (parts : Assembly) (s : Snapshot) : Type 0 where
+  pub newest : parts.pictures ≡ newest_picture s.told
+  pub places : (n : ℕ) → is_available n s.window.packets ≡ true →
+      place_at parts.window.packets n ≡ place_told s.told n
+
 -- each part has the value that the machine gives it, of what was left after each event
 pub record StandsIn (codec : Meaning) (parts : Assembly) (past : List Snapshot) : Type 0 where
   pub window : contents_of parts.window ≡ (latest past).window
+  pub places : KnowsPlaces parts (latest past)
   pub known : KnowsPast codec parts.known past
+  -- the finder knows the pictures that were told, and the frames that were pulled
+  pub finder : Knows parts.finder (sightings (latest past).told) (map summary_of (latest past).pulled)
   pub frames : parts.frames ≡ map summary_of (latest past).standing
   pub last_pulled : parts.last_pulled ≡ last_pulled (latest past).pulled
   pub front : parts.front ≡ (latest past).front
@@ -97,7 +113,9 @@ pub record EngineParts : Type 0 where
   pub events : ℕ
   pub clock : ℕ
   pub window : Contents Held
+  pub pictures : Option ℕ
   pub known : Known
+  pub finder : Finder
   pub frames : List RunSummary
   pub last_pulled : Option ℕ
   pub front : Option ℕ
@@ -110,7 +128,9 @@ assembly_in parts = record {
   events = parts.events;
   clock = parts.clock;
   window = parts.window;
+  pictures = parts.pictures;
   known = parts.known;
+  finder = parts.finder;
   frames = parts.frames;
   last_pulled = parts.last_pulled;
   front = parts.front;
@@ -123,7 +143,9 @@ parts_of assembly wanted = record {
   events = assembly.events;
   clock = assembly.clock;
   window = assembly.window;
+  pictures = assembly.pictures;
   known = assembly.known;
+  finder = assembly.finder;
   frames = assembly.frames;
   last_pulled = assembly.last_pulled;
   front = assembly.front;

@@ -2,7 +2,7 @@
 
 use std::alloc::Global;
 use std::test::Fail;
-use vrx_core::NewFault::{BadInterval, BadType, Later, RedMissing, SameSsrc, SameType};
+use vrx_core::NewFault::{BadInterval, BadType, RedMissing, SameSsrc, SameType};
 use vrx_core::{Engine, MOST_EVENTS, NewFault, Pulled, Reason, Red, Rtx, Settings, What};
 use vrx_vp8::Vp8;
 
@@ -120,7 +120,6 @@ fn settings_are_tested_in_order(rt: HostRuntime) {
     }
     // each other type at an edge, each pair of types and of SSRCs, and the first of two faults
     for (red, rtx, want) in [
-        (red(97, 98), rtx(12, 99, 100), Later),
         (red(64, 98), rtx(12, 99, 100), BadType),
         (red(97, 95), rtx(12, 99, 100), BadType),
         (red(97, 98), rtx(12, 128, 100), BadType),
@@ -159,7 +158,8 @@ fn settings_are_tested_in_order(rt: HostRuntime) {
         (None, media_rtx, 11, 0, Some(BadInterval)),
         (None, media_rtx, 11, 1, None),
         (media_red, rtx(12, 99, 100), 11, 1, None),
-        (red(97, 98), None, 11, 1, Some(Later)),
+        (red(97, 98), rtx(12, 99, 100), 11, 1, None),
+        (red(97, 98), None, 11, 1, None),
         (red(97, 98), media_rtx, 11, 60_001, Some(BadInterval)),
         (None, None, 11, 0, Some(BadInterval)),
         (None, None, 11, 1, None),

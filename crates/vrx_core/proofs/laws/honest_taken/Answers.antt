@@ -4,6 +4,11 @@ use Rattle.vrx_core.proofs.laws.honest_taken.Goals as goal
 
 pub returns : goal.returns
 returns c = record {
-  taken = honest_taken c.extended_is_near.ensures.some
-      (record { packets = c.one_reading.ensures.read_packet; again = c.one_original.ensures.again });
+  taken = honest_taken c.extended_is_near.ensures.some c.picture_is_near.ensures.given
+      (record {
+        packets = c.one_reading.ensures.read_packet;
+        again = c.one_original.ensures.again;
+        payloads = c.one_payload.ensures.one;
+      })
+      c.true_repairs.ensures.right;
 }

@@ -12,6 +12,7 @@ returns c =
       one_block = c.one_block.ensures.one;
       empty = c.one_block.ensures.empty;
       more_blocks = c.one_block.ensures.more_blocks;
+      one_payload = c.one_payload.ensures.one;
     } in record {
       reasons = reasons_mean wraps c.one_reading.ensures.read_packet c.one_answer.ensures.passes
           c.one_answer.ensures.fails c.extended_is_near.ensures.none;

@@ -20,5 +20,5 @@ returns-in-Some-fault_of c =
       right = head-right c.args.line.now c.requires.short c.in-Some.field-0-0 c.in-Some.settings
           (sym c.read_settings.ensures.settings ∙ c.in-Some.is) c.in-Some-fault_of.fault
           c.in-Some-fault_of.ensures.fault
-          c.is_right_but_for.result c.is_right_but_for.ensures.right c.is_right_but_for.ensures.no_memory;
+          c.is_right_with.result c.is_right_with.ensures.right c.is_right_with.ensures.no_memory;
     }

@@ -1,7 +1,7 @@
 use Rattle.std.proofs.Common.{◌≡◌, ◌⊎◌, Some, Err, inl, inr, sym, ap, subst}
 use Rattle.vrx_core.specs.machine.SettingsFault.{fault_of}
 use Rattle.vrx_core.specs.declared.settings.NewFault.{NewFault}
-use Rattle.vrx_core.specs.declared.settings.NewFault.TheVariants.{BadType, SameType, SameSsrc, RedMissing, BadInterval, Later, NoMemory}
+use Rattle.vrx_core.specs.declared.settings.NewFault.TheVariants.{BadType, SameType, SameSsrc, RedMissing, BadInterval, NoMemory}
 use Rattle.vrx_core.specs.declared.settings.Settings.{Settings}
 use Rattle.vrx_capture.specs.declared.settings_line.CodecName.{CodecName}
 use Rattle.vrx_program.specs.Job.{IfRefused}
@@ -21,7 +21,6 @@ reason-is settings SameType is = λ name. ap (unless_fault name settings) is
 reason-is settings SameSsrc is = λ name. ap (unless_fault name settings) is
 reason-is settings RedMissing is = λ name. ap (unless_fault name settings) is
 reason-is settings BadInterval is = λ name. ap (unless_fault name settings) is
-reason-is settings Later is = λ name. ap (unless_fault name settings) is
 reason-is settings NoMemory is = tt
 
 hindered : (settings : Settings) (fault : NewFault) → (fault ≡ NoMemory) ⊎ (fault_of settings ≡ Some fault) →

@@ -1,10 +1,13 @@
-use Rattle.vrx_core.proofs.relation.CallLemmas.{next-beyond}
-use Rattle.vrx_core.specs.inside.Fields.{assembly_of}
+use Rattle.std.proofs.Common.{subst}
+use Rattle.vrx_core.specs.relation.StandsFor.{Assembly}
+use Rattle.vrx_core.specs.inside.Fields.{IsNext, IsWhole}
 use Rattle.vrx_core.proofs.assembler.Assembler.next.Goals as goal
 
-pub next-requires : goal.next-requires
-next-requires g c = let i = c.self.inside in
-    record {
-      beyond = next-beyond g.C.Codec.meaning
-          (assembly_of i.settings i.count i.window i.runs i.frames i.last_pulled i.front) c.self.invariant.whole.kept;
-    }
+pub returns : goal.returns
+returns g c = record {
+  next = subst (λ (p : Assembly). IsNext p c.next.result) c.self.view_is (record {
+    stands = c.next.ensures.stands;
+    next = c.next.ensures.next;
+  });
+  whole = subst (λ (p : Assembly). IsWhole g.C.Codec.meaning p) c.self.view_is c.self.invariant.whole;
+}

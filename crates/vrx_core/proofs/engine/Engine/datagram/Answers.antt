@@ -6,9 +6,9 @@ use Rattle.vrx_window.specs.Content.{contents_of}
 use Rattle.vrx_core.specs.machine.Machine.{ToDatagram, reply}
 use Rattle.vrx_core.specs.machine.Reasons.{MeansAnswer}
 use Rattle.vrx_core.specs.machine.Verdict.{verdict}
-use Rattle.vrx_core.specs.relation.Order.{greatest_of}
+use Rattle.vrx_buffer.specs.Order.{greatest_of}
 use Rattle.vrx_core.specs.relation.StandsFor.{Assembly, EngineParts, StandsFor, Wanted, parts_of}
-use Rattle.vrx_core.specs.inside.Kept.{key_numbers}
+use Rattle.vrx_buffer.specs.Frames.{key_numbers}
 use Rattle.vrx_core.specs.inside.Wants.{AreFresh, wanted_with}
 use Rattle.vrx_core.specs.declared.event.Event.{Event}
 use Rattle.vrx_core.specs.declared.event.Event.TheVariants.{Datagram}
@@ -61,20 +61,20 @@ returns-clause-reply g c =
     subst (λ (p : EngineParts). (h : List Event) → StandsFor g.C.Codec.meaning p h →
     ToDatagram (record {
       what = c.in_ok-outcome.outcome.what;
-      repaired = c.new.result;
+      repaired = c.repaired_by.result;
       feedback = c.ask-feedback.result;
     })
     ≡ reply p.settings g.C.Codec.meaning h (Datagram c.args.moment c.args.bytes.now)) c.self.view_is
     (λ h stands.
     (λ j. ToDatagram (record {
       what = c.in_ok-outcome.outcome.what;
-      repaired = c.new.result;
+      repaired = c.repaired_by.result;
       feedback = record { nack = c.ask-feedback.ensures.nack j; pli = c.ask-feedback.ensures.pli j };
     }))
     ∙ datagram-reply c.runs_are.ensures c.runs_rise.ensures g.C.Codec.meaning i.assembler a i.requests c.args.moment
     c.args.bytes.now c.in_ok-outcome.outcome h c.in_ok-outcome.ensures.handled c.in_ok-outcome.ensures.before
     c.in_ok-outcome.ensures.after c.ask-feedback.ensures.sound stands
-    c.new.result c.new.ensures)
+    c.repaired_by.result c.repaired_by.ensures)
 
 pub returns-clause-settings : goal.returns-clause-settings
 returns-clause-settings g c =

@@ -1,6 +1,6 @@
 use Rattle.std.proofs.Common.{sym, ◌∙◌}
-use Rattle.vrx_core.specs.declared.settings.NewFault.TheVariants.{BadType, SameType, SameSsrc, RedMissing, BadInterval, Later}
-use Rattle.vrx_core.proofs.machine.SettingsLemmas.{fault-bad_type, fault-same_type, fault-same_ssrc, fault-red_missing, fault-bad_interval, fault-later, told-fault, told-none, never-fault}
+use Rattle.vrx_core.specs.declared.settings.NewFault.TheVariants.{BadType, SameType, SameSsrc, RedMissing, BadInterval}
+use Rattle.vrx_core.proofs.machine.SettingsLemmas.{fault-bad_type, fault-same_type, fault-same_ssrc, fault-red_missing, fault-bad_interval, told-fault, told-none, never-fault}
 use Rattle.vrx_core.proofs.engine.Engine.new.Goals as goal
 
 pub returns-in-Some-clause-bad_type : goal.returns-in-Some-clause-bad_type
@@ -57,16 +57,6 @@ returns-in-None-clause-bad_interval g c =
     told-none c.args.settings c.with_settings.result BadInterval
     (sym c.fault_of.ensures ∙ c.in-None.is) c.with_settings.ensures.no_memory (λ e. cc)
     (fault-bad_interval c.args.settings)
-
-pub returns-in-Some-clause-later : goal.returns-in-Some-clause-later
-returns-in-Some-clause-later g c =
-    told-fault c.args.settings c.in-Some.fault Later (sym c.fault_of.ensures ∙ c.in-Some.is)
-    (fault-later c.args.settings)
-
-pub returns-in-None-clause-later : goal.returns-in-None-clause-later
-returns-in-None-clause-later g c =
-    told-none c.args.settings c.with_settings.result Later
-    (sym c.fault_of.ensures ∙ c.in-None.is) c.with_settings.ensures.no_memory (λ e. cc) (fault-later c.args.settings)
 
 pub returns-in-Some-clause-no_memory : goal.returns-in-Some-clause-no_memory
 returns-in-Some-clause-no_memory g c memory =

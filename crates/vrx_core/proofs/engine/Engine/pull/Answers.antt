@@ -1,15 +1,15 @@
-use Rattle.std.proofs.Common.{◌≡◌, ◌<◌, ◌+◌, max, Some, None, sym, subst, ap, ◌∙◌}
-use Rattle.std.specs.Prelude.{◌↔◌, List, ◌∷◌, IsOk}
+use Rattle.std.proofs.Common.{◌≡◌, ◌+◌, max, Some, None, sym, subst, ap, ◌∙◌}
+use Rattle.std.specs.Prelude.{◌↔◌, List, ◌∷◌, map, IsOk}
 use Rattle.std.proofs.lemmas.Bool.{false≢true}
-use Rattle.vrx_frames.specs.Run.{Run as RunOf}
+use Rattle.vrx_frames.specs.Run.{Run as RunOf, summary_of}
+use Rattle.vrx_core.specs.machine.Told.{sightings}
 use Rattle.vrx_core.specs.machine.Answers.{IsLeastDeliverable, NoneDeliverable}
-use Rattle.vrx_core.specs.machine.Machine.{IfFrame, ToPull, frame_of as frame_of_run, last_pulled, latest, reply, snapshots}
+use Rattle.vrx_core.specs.machine.Machine.{IfFrame, ToPull, frame_of as frame_of_run, latest, reply, snapshots}
 use Rattle.vrx_core.specs.relation.StandsFor.{EngineParts, StandsFor, Wanted, parts_of}
 use Rattle.vrx_core.specs.inside.Fields.{IsHandedOut}
 use Rattle.vrx_core.specs.inside.Wants.{AreFresh, beyond_front, pulled_with, wanted_pulled}
 use Rattle.vrx_window.specs.Window.{Contents}
 use Rattle.vrx_window.specs.declared.held.Held.{Held}
-use Rattle.vrx_num.specs.declared.limits.TheConstants.{MOST_EVENTS}
 use Rattle.vrx_core.specs.declared.event.Event.{Event}
 use Rattle.vrx_core.specs.declared.event.Event.TheVariants.{Pull}
 use Rattle.vrx_core.specs.declared.reply.Pulled.TheVariants as pulls
@@ -25,11 +25,10 @@ returns-in_err-frame-clause-not_ready g c =
     reply p.settings g.C.Codec.meaning h (Pull c.args.moment) ≡ ToPull pulls.NotReady →
     IsOk c.from_residual.result) c.self.view_is
     (λ h stands answered. absurd
-    (false≢true (c.in_err-frame.ensures.none
+    (false≢true (c.in_err-frame.ensures.none (sightings (latest (snapshots i.assembler.settings g.C.Codec.meaning h)).told)
+    (map summary_of (latest (snapshots i.assembler.settings g.C.Codec.meaning h)).pulled) stands.assembled.stands.finder
     (pull-none c.runs_are.ensures c.runs_rise.ensures c.runs_apart.ensures g.C.Codec.meaning i.assembler c.args.moment
-    h c.hand_out.ensures.before
-    (subst (λ (p : EngineParts). p.events < MOST_EVENTS) (sym c.self.view_is) c.requires.room) stands.assembled
-    answered))))
+    h c.hand_out.ensures.before stands.assembled answered))))
 
 pub invariant_of-self-in-Some : goal.invariant_of-self-in-Some
 invariant_of-self-in-Some g c = record {
@@ -96,7 +95,7 @@ returns-in-Some-clause-not_ready_exactly g c =
     let i = c.self.inside in
     subst (λ (p : EngineParts). (h : List Event) → StandsFor g.C.Codec.meaning p h →
     let s = latest (snapshots p.settings g.C.Codec.meaning h) in
-    (pulls.Frame c.in-Some.frame ≡ pulls.NotReady) ↔ NoneDeliverable (last_pulled s.pulled) s.front s.standing)
+    (pulls.Frame c.in-Some.frame ≡ pulls.NotReady) ↔ NoneDeliverable s.told s.pulled s.front s.standing)
     c.self.view_is
     (λ h stands. pull-exactly c.runs_are.ensures c.runs_rise.ensures c.runs_apart.ensures
     c.answers_are.ensures.answers g.C.Codec.meaning i.assembler c.hand_out.new.self c.args.moment
@@ -109,7 +108,7 @@ returns-in-None-clause-not_ready_exactly g c =
     let i = c.self.inside in
     subst (λ (p : EngineParts). (h : List Event) → StandsFor g.C.Codec.meaning p h →
     let s = latest (snapshots p.settings g.C.Codec.meaning h) in
-    (pulls.NotReady ≡ pulls.NotReady) ↔ NoneDeliverable (last_pulled s.pulled) s.front s.standing) c.self.view_is
+    (pulls.NotReady ≡ pulls.NotReady) ↔ NoneDeliverable s.told s.pulled s.front s.standing) c.self.view_is
     (λ h stands. pull-exactly c.runs_are.ensures c.runs_rise.ensures c.runs_apart.ensures
     c.answers_are.ensures.answers g.C.Codec.meaning i.assembler c.hand_out.new.self c.args.moment None h
     (subst (λ frame. IsHandedOut g.C.Codec.meaning i.assembler c.hand_out.new.self c.args.moment frame) c.in-None.is
@@ -121,7 +120,7 @@ returns-in-Some-clause-frame g c =
     subst (λ (p : EngineParts). (h : List Event) → StandsFor g.C.Codec.meaning p h →
     let s = latest (snapshots p.settings g.C.Codec.meaning h) in
     IfFrame (pulls.Frame c.in-Some.frame)
-    (λ frame. (run : RunOf) × IsLeastDeliverable (last_pulled s.pulled) s.front s.standing run
+    (λ frame. (run : RunOf) × IsLeastDeliverable s.told s.pulled s.front s.standing run
     × (frame ≡ frame_of_run run))) c.self.view_is
     (λ h stands. pull-frame c.runs_are.ensures c.runs_rise.ensures c.runs_apart.ensures c.answers_are.ensures.answers
     g.C.Codec.meaning i.assembler c.hand_out.new.self c.args.moment (Some c.in-Some.frame) h

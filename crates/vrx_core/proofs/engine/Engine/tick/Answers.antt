@@ -4,9 +4,9 @@ use Rattle.vrx_asks.specs.Asks.{asked_numbers, given_up_numbers}
 use Rattle.vrx_window.specs.Window.{Contents}
 use Rattle.vrx_window.specs.declared.held.Held.{Held}
 use Rattle.vrx_core.specs.machine.Machine.{ToTick, nack_for, pli_for, reply}
-use Rattle.vrx_core.specs.relation.Order.{greatest_of}
+use Rattle.vrx_buffer.specs.Order.{greatest_of}
 use Rattle.vrx_core.specs.relation.StandsFor.{Assembly, EngineParts, StandsFor, Wanted, parts_of}
-use Rattle.vrx_core.specs.inside.Kept.{key_numbers}
+use Rattle.vrx_buffer.specs.Frames.{key_numbers}
 use Rattle.vrx_core.specs.inside.Step.{after_counting}
 use Rattle.vrx_core.specs.inside.Wants.{AreFresh, AreNear, CanGiveUpAll, asks_key, given_up_all, needs_key, wanted_ticked}
 use Rattle.vrx_core.specs.declared.event.Event.{Event}
