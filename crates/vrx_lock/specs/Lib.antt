@@ -1,0 +1,5 @@
+pub mod Lists
+pub mod Shares
+pub mod Journal
+pub mod Seats
+pub mod inside
