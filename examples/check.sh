@@ -77,22 +77,22 @@ capture=examples/one_keyframe/capture
 head=$(head -n 1 $capture)
 short="bad rtp Short 1"
 
-# judged LIST WORD: 'right', 'later', or the reason that is the name of the list
+# judged LIST: 'right', or the reason that is the name of the list
 judged() {
-  case $1:$2 in
-    blank:* | tick:* | right:* | later:inspect) echo right ;;
+  case $1 in
+    blank | tick | right) echo right ;;
     *) echo "$1" ;;
   esac
 }
 
 # each line of a list as the first line of a capture; a datagram of one octet follows it
-for list in right later settings; do
+for list in right settings; do
   grep -v '^## ' "examples/first_lines/$list" > "$folder/lines"
   while IFS= read -r line; do
     printf '%s\nd 0 80\n' "$line" > "$long"
     for word in replay inspect; do
       [ $word = replay ] && reply="drop NotRtp" || reply=$short
-      reason=$(judged $list $word)
+      reason=$(judged $list)
       if [ "$reason" = right ]; then
         says $word 0 "2 $reply"$'\n' "first line '$line'"
       else
@@ -108,7 +108,7 @@ for list in blank tick kind moment end hex; do
   while IFS= read -r line; do
     for word in replay inspect; do
       [ $word = replay ] && reply="drop NotRtp" || reply=$short
-      reason=$(judged $list $word)
+      reason=$(judged $list)
       if [ "$reason" = right ]; then
         status=0 third="4 $reply"$'\n' last=
         [ $list:$word != tick:replay ] || third=$'3 tick\n'$third last=$'2 tick\n'
@@ -249,7 +249,6 @@ told 1 "$usage" $capture /dev/null Inspect
 told 1 "$usage" $capture /dev/null $'replay\xff'
 told 2 "$bad" examples/bad_lines/kind.capture /dev/null replay
 told 2 "$bad" examples/bad_lines/kind.capture /dev/null inspect
-told 0 "" examples/bad_lines/later.capture /dev/null inspect
 told 2 "$bad" examples/bad_line_after_a_tick/capture /dev/null replay
 told 3 "vrx: a read failed" examples /dev/null replay
 told 3 "vrx: a read failed" examples /dev/null inspect
