@@ -1,12 +1,12 @@
 -- The deliverable run with the least first number.
-use Rattle.std.proofs.Common.{◌≡◌, ℕ, ◌+◌, ◌<◌, ◌≤◌, Bool, true, false, cond, List, [], ◌∷◌, length, drop, get_or, refl, sym, ◌∙◌, ap, subst, arith}
+use Rattle.std.proofs.Common.{◌≡◌, ℕ, ◌+◌, ◌<◌, ◌≤◌, Bool, true, false, cond, List, [], ◌∷◌, ◌++◌, length, drop, get_or, refl, sym, ◌∙◌, ap, subst, arith}
 use Rattle.std.specs.Prelude.{◌&&◌, not, nat_lt, slice_get, Option, Some, None, is_none, IfSome}
 use Rattle.std.specs.List.{All, Contains, filter, find, list_all}
 use Rattle.std.proofs.lemmas.Bool.Decides.{nat_tests}
 use Rattle.std.proofs.lemmas.Grind.{common_steps}
 use Rattle.std.proofs.lemmas.List.{drop_all, drop_more}
 use Rattle.std.proofs.lemmas.List.Sums.{AllPass-from_list_all}
-use Rattle.std.proofs.lemmas.List.Elements.{All-contains_itself, All-filter, All-head}
+use Rattle.std.proofs.lemmas.List.Elements.{All-contains, All-contains_itself, All-filter, All-head, Contains-append_right}
 use Rattle.vrx_codec.specs.declared.run.Place.{Place}
 use Rattle.vrx_codec.specs.declared.run.Run.{Run}
 use Rattle.vrx_refs.specs.declared.sighting.Sighting.{Sighting}
@@ -107,45 +107,6 @@ module _ (p : Run → Bool) where
   find-all [] h = refl
   find-all (x ∷ xs) h = found x xs (grind (arith, common_steps))
 
-  -- the search for a run, from a place on
-  module _ (xs : List Run) (rise : rises_by first xs ≡ true) (best : Option Run) (at : ℕ) (run : Run)
-      (lt : at < length xs) (is : run ≡ get_or xs at run) where
-    here : drop at xs ≡ run ∷ drop (at + 1) xs
-    here = drop_more xs at run lt ∙ ap (λ r. r ∷ drop (at + 1) xs) (sym is)
-
-    -- the best one so far begins before it
-    pub best-stays : is_before best run ≡ true → find p (drop at xs) ≡ find p xs → best ≡ lesser best (find p xs)
-    best-stays before same = by best before ∙ ap (λ o. lesser best (find p o)) (sym here) ∙ ap (lesser best) same where
-      rest : beyond first run.first (drop (at + 1) xs) ≡ true
-      rest =
-          let all : rises_by first (run ∷ drop (at + 1) xs) ≡ true =
-          subst (λ ys. rises_by first ys ≡ true) here (rises-drop first at xs rise) in
-          grind (arith, common_steps)
-
-      later : (n : ℕ) → nat_lt n run.first ≡ true → beyond first n (run ∷ drop (at + 1) xs) ≡ true
-      later n less = grind (arith, common_steps, less, rest, beyond-less first n run.first (drop (at + 1) xs))
-
-      by : (best : Option Run) → is_before best run ≡ true
-          → best ≡ lesser best (find p (run ∷ drop (at + 1) xs))
-      by None never = grind (arith, never)
-      by (Some b) less = sym (lesser-first b (find p (run ∷ drop (at + 1) xs))
-          (find-later p b.first (run ∷ drop (at + 1) xs) (later b.first less)))
-
-    -- it passes
-    pub best-found : is_before best run ≡ false → p run ≡ true → find p (drop at xs) ≡ find p xs
-        → Some run ≡ lesser best (find p xs)
-    best-found after ready same = sym (ap (lesser best) (sym same ∙ ap (find p) here ∙ found run (drop (at + 1) xs) ready)
-        ∙ ap (λ b. cond b best (Some run)) after)
-
-    -- it doesn't
-    pub search-on : p run ≡ false → find p (drop at xs) ≡ find p xs → find p (drop (at + 1) xs) ≡ find p xs
-    search-on not_ready same = sym (passed_over run (drop (at + 1) xs) not_ready) ∙ ap (find p) (sym here) ∙ same
-
-  -- none is left
-  pub search-over : (xs : List Run) (best : Option Run) (at : ℕ) → length xs ≤ at → find p (drop at xs) ≡ find p xs
-      → best ≡ lesser best (find p xs)
-  search-over xs best at le same = ap (lesser best) (ap (find p) (sym (drop_all at xs le)) ∙ same)
-
 -- a run is found among runs of which all are among others
 pub among-lesser : (P : Run → Type 0) (o q : Option Run) → IfSome o P → IfSome q P → IfSome (lesser o q) P
 among-lesser P o None a b = a
@@ -161,6 +122,17 @@ among-first P (x ∷ xs) all = All-head P x xs all
 pub among-part : (p : Run → Bool) (runs part : List Run) → part ≡ filter p runs → All (λ run. Contains runs run) part
 among-part p runs part is = subst (All (λ run. Contains runs run)) (sym is)
     (All-filter p (λ run. Contains runs run) runs (All-contains_itself runs))
+
+pub among-back : (front back : List Run) (o : Option Run) → IfSome o (λ run. Contains back run)
+    → IfSome o (λ run. Contains (front ++ back) run)
+among-back front back None there = tt
+among-back front back (Some run) there = Contains-append_right front back run there
+
+pub among-queue : (p : Run → Bool) (runs part : List Run) → part ≡ filter p runs → (o : Option Run)
+    → IfSome o (λ run. Contains part run) → IfSome o (λ run. Contains runs run)
+among-queue p runs part is None there = tt
+among-queue p runs part is (Some run) there = All-contains (λ run. Contains runs run) part run
+    (among-part p runs part is) there
 
 module _ (told : List Sighting) (pulled : List Run) (passed : Option ℕ) where
   abbrev ready : Run → Bool
@@ -247,7 +219,7 @@ module _ (told : List Sighting) (pulled : List Run) (passed : Option ℕ) where
       all_ready : list_all ready keys ≡ true
       all_ready = keys-ready keys (ap (list_all is_key) kept.keys_are ∙ all-pass is_key runs)
 
--- what is_ready asks of runs: a run of a queue without layers, and one at a place
+-- what is_ready asks of the first run of a queue without layers
 none-layers : (key : Bool) (layers : Option Place) → (not key && is_none layers) ≡ true → has_layer layers ≡ true
 none-layers true layers is = grind (arith, is)
 none-layers false None is = refl
@@ -259,8 +231,3 @@ first-layer run [] is plain = grind (arith, is)
 first-layer run (x ∷ xs) is plain =
     let same : run ≡ x = cc in
     ap (λ r. has_layer r.layers) same ∙ none-layers x.key x.layers (grind (arith, common_steps))
-
-pub each-layer : (xs : List Run) (at : ℕ) (run : Run) → have_layers xs ≡ true → at < length xs → run ≡ get_or xs at run
-    → has_layer run.layers ≡ true
-each-layer xs at run all lt is = ap (λ r. has_layer r.layers) is
-    ∙ AllPass-from_list_all (λ (r : Run). has_layer r.layers) xs all at run lt

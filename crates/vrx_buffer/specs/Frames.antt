@@ -5,7 +5,8 @@ use Rattle.std.specs.List.{All, find, filter}
 use Rattle.vrx_num.specs.declared.limits.TheConstants.{WINDOW}
 use Rattle.vrx_codec.specs.declared.run.Run.{Run}
 use Rattle.vrx_refs.specs.declared.sighting.Sighting.{Sighting}
-use Rattle.vrx_refs.specs.References.{has_layer, judge, Judgement, Key, Needs, Unknown}
+use Rattle.vrx_refs.specs.References.{has_layer, judge}
+pub use Rattle.vrx_refs.specs.References.{is_ready}
 use Rattle.vrx_buffer.specs.Order.{put_by, rises_by}
 
 -- the runs that don't begin at n
@@ -20,14 +21,8 @@ with_run run runs = put_by (λ r. r.first) run (without run.first runs)
 abbrev pub runs_from : ℕ → List Run → List Run
 runs_from n runs = filter (λ run. nat_le n run.first) runs
 
--- A run is ready if it refers to nothing, or to frames that are known and were all pulled.
-abbrev pub is_ready : Judgement → Bool
-is_ready Key = true
-is_ready (Needs []) = true
-is_ready (Needs (q ∷ qs)) = false
-is_ready Unknown = false
-
--- after these sightings and pulls, with the numbers up to `passed` passed, a run is ready
+-- after these sightings and pulls, with the numbers up to `passed` passed, a run is ready: it refers to nothing, or to
+-- frames that are known and were all pulled
 abbrev pub is_deliverable : List Sighting → List Run → Option ℕ → Run → Bool
 is_deliverable told pulled passed run = is_ready (judge told pulled passed run)
 

@@ -12,7 +12,6 @@ ghost use Rattle.vrx_buffer.specs.Frames.{AreStanding, is_deliverable, key_numbe
 ghost use Rattle.vrx_buffer.specs.Kept.{have_layers, is_before, is_layered, is_plain, lesser};
 
 use crate::queue::Queue;
-use crate::ready::is_ready;
 use std::alloc::Global;
 use std::marker::Model;
 use vrx_codec::Run;
@@ -77,7 +76,8 @@ impl Frames {
     {
         let key = self.keys.first();
         let plain = first_if_ready(&self.plain, finder, passed);
-        first_ready(&self.layered, finder, passed, lesser(key, plain))
+        let layered = self.layered.first_ready(finder, passed);
+        lesser(lesser(key, plain), layered)
     }
 
     /// Removes the run with this first number and all runs before it.
@@ -146,34 +146,9 @@ fn first_if_ready(queue: &Queue, finder: &Finder, passed: Option<u64>) -> Option
         IfSome result (λ run. Contains runs run) }
 {
     match queue.first() {
-        Some(run) if is_ready(finder, &run, passed) => Some(run),
+        Some(run) if finder.is_ready(&run, passed) => Some(run),
         _ => None,
     }
-}
-
-/// The first run that is ready, or the best one so far, if that begins before it.
-fn first_ready(
-    queue: &Queue,
-    finder: &Finder,
-    passed: Option<u64>,
-    best: Option<Run>,
-) -> Option<Run>
-    requires layers { have_layers queue.now ≡ true }
-    ensures ready { (told : List Sighting) (pulled : List Run) → Knows finder.now told pulled →
-        result ≡ lesser best (find (is_deliverable told pulled passed) queue.now) }
-    ensures stands { (runs : List Run) → IfSome best (λ run. Contains runs run) →
-        All (λ run. Contains runs run) queue.now → IfSome result (λ run. Contains runs run) }
-{
-    for at in 0..queue.len() {
-        let run = queue.get(at);
-        if is_before(best, &run) {
-            return best;
-        }
-        if is_ready(finder, &run, passed) {
-            return Some(run);
-        }
-    }
-    best
 }
 
 /// Whether the best run so far begins before another.

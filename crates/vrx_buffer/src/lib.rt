@@ -6,7 +6,6 @@
 
 mod frames;
 mod queue;
-mod ready;
 
 pub use frames::Frames;
 

@@ -1,11 +1,14 @@
 //! Runs in a queue, in the order of their first numbers.
 
-ghost use Rattle.std.specs.Prelude.{◌≡◌, ◌+◌, ◌<◌, nat_le, true, [], length, map, drop, slice_get, slice_index_or, if◌then◌else◌, IfOk};
-ghost use Rattle.std.specs.List.{list_any};
+ghost use Rattle.std.specs.Prelude.{◌≡◌, ◌+◌, ◌<◌, nat_le, true, List, [], length, map, drop, slice_get, slice_index_or, if◌then◌else◌, IfOk, IfSome};
+ghost use Rattle.std.specs.List.{Contains, find, list_any};
 ghost use Rattle.vrx_num.specs.declared.limits.TheConstants.{WINDOW};
 ghost use Rattle.vrx_buffer.specs.Order.{greatest_of, rises_by};
-ghost use Rattle.vrx_buffer.specs.Frames.{runs_from, with_run, without};
-ghost use Rattle.vrx_buffer.specs.Kept.{IsPlace};
+ghost use Rattle.vrx_codec.specs.declared.run.Run.{Run};
+ghost use Rattle.vrx_refs.specs.declared.sighting.Sighting.{Sighting};
+ghost use Rattle.vrx_refs.specs.Knows.{Knows};
+ghost use Rattle.vrx_buffer.specs.Frames.{is_deliverable, runs_from, with_run, without};
+ghost use Rattle.vrx_buffer.specs.Kept.{IsPlace, have_layers};
 
 use std::alloc::Global;
 use std::collections::VecDeque;
@@ -13,6 +16,7 @@ use std::marker::Model;
 use vrx_codec::Run;
 use vrx_num::NoMemory;
 use vrx_num::limits::WINDOW;
+use vrx_refs::Finder;
 
 /// Runs. Contracts see their list, which rises by first number. Its memory is taken once: room for 2,048.
 #[derive(Drop)]
@@ -67,6 +71,20 @@ impl Queue {
         match self.runs.front() {
             Some(run) => Some(*run),
             None => None,
+        }
+    }
+
+    /// The first run that is ready, with the numbers up to `passed` passed.
+    pub(crate) fn first_ready(&self, finder: &Finder, passed: Option<u64>) -> Option<Run>
+        requires layers { have_layers self.now ≡ true }
+        ensures ready { (told : List Sighting) (pulled : List Run) → Knows finder.now told pulled →
+            result ≡ find (is_deliverable told pulled passed) self.now }
+        ensures among { IfSome result (λ run. Contains self.now run) }
+    {
+        let (front, back) = self.runs.as_slices();
+        match finder.first_ready(front, passed) {
+            Some(run) => Some(run),
+            None => finder.first_ready(back, passed),
         }
     }
 

@@ -15,7 +15,7 @@ use Rattle.vrx_refs.specs.declared.walk.Step.{Step}
 use Rattle.vrx_refs.specs.declared.walk.Step.TheVariants.{Lost, Ended, On}
 use Rattle.vrx_refs.specs.declared.limits.TheConstants.{INDEXES, REACH}
 use Rattle.vrx_refs.specs.Finder.{Finder, base_at, sight_at}
-use Rattle.vrx_refs.specs.Kept.{has_index, is_key_at, is_pulled_at, judge_base, judge_by, judge_layers, judge_next, judge_place, judge_walk, met_at, step_at, step_by, tid_at, walk_at}
+use Rattle.vrx_refs.specs.Kept.{has_index, is_key_at, is_pulled_at, judge_at, judge_base, judge_by, judge_layers, judge_next, judge_place, judge_walk, met_at, step_at, step_by, tid_at, walk_at}
 use Rattle.vrx_refs.specs.Knows.{Knows, sight_of}
 use Rattle.vrx_refs.specs.References.{are_met, base, base_by, base_reference, counts, is_placed_at, judge, judge_delta, Key, met_with, Needs, pictures, references, seen, Unknown, waits_for, walk, walked, was_pulled, was_pulled_key}
 use Rattle.vrx_refs.proofs.WalkLemmas.{walk_all, walk_further, walk_same}
@@ -30,7 +30,7 @@ module _ (finder : Finder) (tid most p : ℕ) (met : List Sighting) (some : 0 < 
   further = walk_further (tid_at finder) (is_key_at finder) tid most p met some below
 
   -- where it comes to, by what the picture makes of it
-  abbrev walk_by : Step → List Sighting → Option (List ℕ)
+  abbrev pub walk_by : Step → List Sighting → Option (List ℕ)
   walk_by Lost next = None
   walk_by Ended next = Some (pictures next)
   walk_by On next = walk_on (most - 1) (p - 1) next
@@ -133,8 +133,7 @@ module _ (finder : Finder) (told : List Sighting) (pulled : List Run) (knows : K
     by_walk = ap (judge_walk finder) (walk_known place) ∙ walk_judged place _ refl
 
     by : (low sync : Bool)
-        → cond low (judge_base place.picture (base_at finder (index_before place.tl0)))
-        (cond sync (judge_base place.picture (base_at finder place.tl0)) (judge_walk finder (walk_at finder place)))
+        → judge_at finder place (cond low (Some (index_before place.tl0)) (cond sync (Some place.tl0) None))
         ≡ waits_for pulled (cond low (base_reference place.picture
         (base pulled (index_before place.tl0)))
         (cond sync (base_reference place.picture (base pulled place.tl0))

@@ -1,6 +1,6 @@
 -- What each call makes of what a finder remembers, and what it judges by that. No public clause cites this module.
 use Rattle.std.specs.Prelude.{ℕ, ◌+◌, ◌-◌, ◌%◌, Bool, true, false, ◌||◌, ◌&&◌, not, ◌==◌, nat_lt, max, if◌then◌else◌, List, [], slice_set, Option, Some, None, is_none}
-use Rattle.std.specs.List.{filter}
+use Rattle.std.specs.List.{filter, list_all}
 use Rattle.std.specs.Option.{option_map, option_map_or}
 use Rattle.vrx_num.specs.Index.{index_before}
 use Rattle.vrx_codec.specs.declared.run.Place.{Place}
@@ -99,11 +99,17 @@ abbrev pub judge_base : ℕ → Option ℕ → Judgement
 judge_base p None = Unknown
 judge_base p (Some b) = if counts p b then Needs [] else Unknown
 
+-- the index of the base to which a frame of this place refers, if it refers to nothing else
+abbrev pub base_index : Place → Option ℕ
+base_index place = if place.tid == 0 then Some (index_before place.tl0)
+    else if place.sync then Some place.tl0 else None
+
+abbrev pub judge_at : Finder → Place → Option ℕ → Judgement
+judge_at finder place (Some index) = judge_base place.picture (base_at finder index)
+judge_at finder place None = judge_walk finder (walk_at finder place)
+
 abbrev pub judge_place : Finder → Place → Judgement
-judge_place finder place =
-    if place.tid == 0 then judge_base place.picture (base_at finder (index_before place.tl0))
-    else if place.sync then judge_base place.picture (base_at finder place.tl0)
-    else judge_walk finder (walk_at finder place)
+judge_place finder place = judge_at finder place (base_index place)
 
 abbrev pub judge_next : Bool → Option ℕ → ℕ → Judgement
 judge_next has_pulled passed first = if has_pulled && is_passed_before passed first then Needs [] else Unknown
@@ -114,6 +120,31 @@ judge_layers finder passed first (Some place) = judge_place finder place
 
 abbrev pub judge_by : Finder → Option ℕ → Run → Judgement
 judge_by finder passed run = if run.key then Key else judge_layers finder passed run.first run.layers
+
+-- a base counts
+abbrev pub is_base_ready : ℕ → Option ℕ → Bool
+is_base_ready p None = false
+is_base_ready p (Some b) = counts p b
+
+-- a walk comes to an end, and what it meets was pulled
+abbrev pub are_pulled_at : Finder → Option (List ℕ) → Bool
+are_pulled_at finder None = false
+are_pulled_at finder (Some pictures) = list_all (is_pulled_at finder) pictures
+
+-- a run is ready, by its place and by itself
+abbrev pub is_ready_at : Finder → Place → Option ℕ → Bool
+is_ready_at finder place (Some index) = is_base_ready place.picture (base_at finder index)
+is_ready_at finder place None = are_pulled_at finder (walk_at finder place)
+
+abbrev pub is_place_ready : Finder → Place → Bool
+is_place_ready finder place = is_ready_at finder place (base_index place)
+
+abbrev pub is_layers_ready : Finder → Option ℕ → ℕ → Option Place → Bool
+is_layers_ready finder passed first None = finder.has_pulled && is_passed_before passed first
+is_layers_ready finder passed first (Some place) = is_place_ready finder place
+
+abbrev pub is_run_ready : Finder → Option ℕ → Run → Bool
+is_run_ready finder passed run = run.key || is_layers_ready finder passed run.first run.layers
 
 -- a run's index, if it has layers, has 8 bits
 abbrev pub has_index : Option Place → Bool

@@ -149,3 +149,10 @@ has_layer (Some place) = nat_lt place.tid LAYERS
 abbrev pub was_carried : List Sighting → Option Place → Bool
 was_carried told None = true
 was_carried told (Some place) = is_some (first_tid place.picture told)
+
+-- a run is ready to be decoded: it refers to nothing, or to frames that are known and were all pulled
+abbrev pub is_ready : Judgement → Bool
+is_ready Key = true
+is_ready (Needs []) = true
+is_ready (Needs (q ∷ qs)) = false
+is_ready Unknown = false

@@ -1,7 +1,8 @@
 //! The reference finder.
 
-ghost use Rattle.std.specs.Prelude.{◌≡◌, ◌+◌, ◌-◌, ◌%◌, ◌<◌, ◌≤◌, true, false, List, [], ◌∷◌, ◌++◌, length, replicate, max, IfOk, Some, None};
+ghost use Rattle.std.specs.Prelude.{◌≡◌, ◌+◌, ◌-◌, ◌%◌, ◌<◌, ◌≤◌, true, false, List, [], ◌∷◌, ◌++◌, length, replicate, max, IfOk, IfSome, Some, None};
 ghost use Rattle.std.specs.Bool.{OnFalse};
+ghost use Rattle.std.specs.List.{Contains, find, list_all};
 ghost use Rattle.std.specs.Option.{option_map};
 ghost use Rattle.arrayvec.specs.ArrayVec.{array_vec_len};
 ghost use Rattle.vrx_codec.specs.declared.run.Run.{Run};
@@ -9,16 +10,16 @@ ghost use Rattle.vrx_refs.specs.declared.limits.TheConstants.{INDEXES, LAYERS, M
 ghost use Rattle.vrx_refs.specs.declared.sighting.Sighting.{Sighting};
 ghost use Rattle.vrx_refs.specs.declared.walk.Step.TheVariants as Step;
 ghost use Rattle.vrx_refs.specs.Finder.{IsWhole, base_at, sight_at, slot_at};
-ghost use Rattle.vrx_refs.specs.Kept.{has_index, is_pulled_at, judge_base, judge_by, judge_next, judge_place, met_at, not_pulled_at, step_at, walk_at, with_base, with_mark, with_pulled, with_seen};
+ghost use Rattle.vrx_refs.specs.Kept.{are_pulled_at, base_index, has_index, is_base_ready, is_place_ready, is_pulled_at, is_run_ready, judge_base, judge_by, judge_next, judge_place, met_at, not_pulled_at, step_at, walk_at, with_base, with_mark, with_pulled, with_seen};
 ghost use Rattle.vrx_refs.specs.Knows.{Knows};
-ghost use Rattle.vrx_refs.specs.References.{counts, has_layer, is_passed_before, is_recent, judge, pictures, was_carried};
+ghost use Rattle.vrx_refs.specs.References.{counts, has_layer, is_passed_before, is_ready, is_recent, judge, pictures, was_carried};
 ghost use Rattle.vrx_refs.specs.View.{view};
 
 use crate::judged::Judged;
 use crate::limits::{INDEXES, MEMORY, REACH};
 use crate::sight::Sight;
 use crate::sighting::Sighting;
-use crate::walk::{Step, are_met, meet};
+use crate::walk::{Met, Step, are_met, meet};
 use arrayvec::ArrayVec;
 use std::alloc::Global;
 use std::marker::Model;
@@ -88,6 +89,97 @@ impl Finder {
         self.judge_run(run, passed)
     }
 
+    /// The first of the runs that is ready, with the numbers up to `passed` passed: one that is key, or that refers to
+    /// frames that are known and were all pulled. The TIDs of those that have layers are below 4.
+    ///
+    /// It looks at fewer pictures than `judge` does: a walk ends at the first one met that wasn't pulled.
+    pub fn first_ready(&self, runs: &[Run], passed: Option<u64>) -> Option<Run>
+        requires layers { list_all (λ run. has_layer run.layers) runs.now ≡ true }
+        ensures ready { (told : List Sighting) (pulled : List Run) → Knows self.now told pulled →
+            result ≡ find (λ run. is_ready (judge told pulled passed run)) runs.now }
+        ensures among { IfSome result (λ run. Contains runs.now run) }
+    {
+        for at in 0..runs.len() {
+            let run = runs[at];
+            if self.is_ready(&run, passed) {
+                return Some(run);
+            }
+        }
+        None
+    }
+
+    /// Whether a run is ready, with the numbers up to `passed` passed. If it has layers, its TID is below 4.
+    pub fn is_ready(&self, run: &Run, passed: Option<u64>) -> bool
+        requires layer { has_layer run.now.layers ≡ true }
+        ensures ready { (told : List Sighting) (pulled : List Run) → Knows self.now told pulled →
+            result ≡ is_ready (judge told pulled passed run.now) }
+    {
+        self.is_run_ready(run, passed)
+    }
+
+    /// Whether a run is ready, by what is remembered.
+    fn is_run_ready(&self, run: &Run, passed: Option<u64>) -> bool
+        requires layer { has_layer run.now.layers ≡ true }
+        ensures ready { result ≡ is_run_ready self.now passed run.now }
+        ensures index { OnFalse run.now.key (has_index run.now.layers ≡ true) }
+    {
+        if run.key {
+            return true;
+        }
+        match run.layers {
+            None => self.has_pulled && is_passed_before(passed, run.first),
+            Some(place) => self.is_place_ready(place),
+        }
+    }
+
+    /// Whether a frame of this place is ready.
+    fn is_place_ready(&self, place: Place) -> bool
+        requires layer { place.tid < LAYERS }
+        ensures ready { result ≡ is_place_ready self.now place }
+        ensures index { place.tl0 < INDEXES }
+    {
+        match base_index(place) {
+            Some(index) => self.has_base(place.picture, index),
+            None => self.is_walk_pulled(place),
+        }
+    }
+
+    /// Whether the base of an index counts for a picture.
+    fn has_base(&self, picture: u64, index: u8) -> bool
+        ensures { result ≡ is_base_ready picture (base_at self.now index) }
+    {
+        match self.bases[usize::from(index)] {
+            Some(base) => counts(picture, base),
+            None => false,
+        }
+    }
+
+    /// Whether each picture met on the walk back from a frame was pulled, if the walk comes to an end.
+    fn is_walk_pulled(&self, place: Place) -> bool
+        requires layer { place.tid < LAYERS }
+        ensures { result ≡ are_pulled_at self.now (walk_at self.now place) }
+    {
+        let mut met = Met::none(place.tid);
+        let mut below = place.picture;
+        for _step in 0..REACH {
+            if below == 0 {
+                return false;
+            }
+            below -= 1;
+            let Some(sight) = self.sight(below) else {
+                return false;
+            };
+            if met.is_first(place.tid, sight.tid) && !sight.pulled {
+                return false;
+            }
+            met = met.with(place.tid, sight.tid);
+            if met.left == 0 || sight.key {
+                return true;
+            }
+        }
+        false
+    }
+
     /// Judges a run by what is remembered.
     fn judge_run(&self, run: &Run, passed: Option<u64>) -> Judged
         requires layer { has_layer run.now.layers ≡ true }
@@ -120,15 +212,12 @@ impl Finder {
         ensures judged { view result ≡ judge_place self.now place }
         ensures index { place.tl0 < INDEXES }
     {
-        if place.tid == 0 {
-            self.judge_base(place.picture, before8(place.tl0))
-        } else if place.sync {
-            self.judge_base(place.picture, place.tl0)
-        } else {
-            match self.walk(place) {
+        match base_index(place) {
+            Some(index) => self.judge_base(place.picture, index),
+            None => match self.walk(place) {
                 Some(met) => Judged::Needs(self.not_pulled(&met)),
                 None => Judged::Unknown,
-            }
+            },
         }
     }
 
@@ -307,6 +396,19 @@ fn nothing<T: Drop>(alloc: Global, count: usize) -> Result<Vec<Option<T>>, NoMem
         slots.push(None)?;
     }
     Ok(slots)
+}
+
+/// The index of the base to which a frame of this place refers, if it refers to nothing else.
+fn base_index(place: Place) -> Option<u8>
+    ensures { result ≡ base_index place }
+{
+    if place.tid == 0 {
+        Some(before8(place.tl0))
+    } else if place.sync {
+        Some(place.tl0)
+    } else {
+        None
+    }
 }
 
 /// Whether a base lies 1 to 255 pictures below a picture.

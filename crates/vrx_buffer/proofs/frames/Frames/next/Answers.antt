@@ -4,7 +4,7 @@ use Rattle.std.specs.Prelude.{IfSome}
 use Rattle.vrx_codec.specs.declared.run.Run.{Run}
 use Rattle.vrx_buffer.specs.Frames.{AreStanding, is_deliverable, next_of}
 use Rattle.vrx_buffer.specs.Kept.{is_key, is_layered, is_plain, lesser, runs_of}
-use Rattle.vrx_buffer.proofs.NextLemmas.{among-first, among-lesser, among-part, kept-next}
+use Rattle.vrx_buffer.proofs.NextLemmas.{among-first, among-lesser, among-part, among-queue, kept-next}
 use Rattle.vrx_buffer.proofs.PartLemmas.{all-layers, all-plain, kept-standing}
 use Rattle.vrx_buffer.proofs.frames.Frames.next.Goals as goal
 
@@ -13,8 +13,8 @@ first_if_ready-plain-requires c = record {
   plain = all-plain _ c.self.inside.keys c.self.inside.plain c.self.inside.layered c.self.invariant;
 }
 
-pub first_ready-requires : goal.first_ready-requires
-first_ready-requires c = record {
+pub first_ready-layered-requires : goal.first_ready-layered-requires
+first_ready-layered-requires c = record {
   layers = all-layers _ c.self.inside.keys c.self.inside.plain c.self.inside.layered c.self.invariant;
 }
 
@@ -22,10 +22,9 @@ pub returns-clause-next : goal.returns-clause-next
 returns-clause-next c = λ told pulled knows.
     kept-next told pulled c.args.passed (runs_of c.self.inside.keys c.self.inside.plain c.self.inside.layered)
     c.self.inside.keys c.self.inside.plain c.self.inside.layered c.self.invariant
-    c.first-key.result c.first_if_ready-plain.result c.first_ready.result
+    c.first-key.result c.first_if_ready-plain.result c.lesser-2.result
     c.first-key.ensures.first (c.first_if_ready-plain.ensures.ready told pulled knows)
-    (c.first_ready.ensures.ready told pulled knows
-    ∙ ap (λ o. lesser o (find (is_deliverable told pulled c.args.passed) c.self.inside.layered)) c.lesser.ensures)
+    (c.lesser-2.ensures ∙ (λ i. lesser (c.lesser.ensures i) (c.first_ready-layered.ensures.ready told pulled knows i)))
     ∙ ap (next_of told pulled c.args.passed) c.self.view_is
 
 pub returns-clause-stands : goal.returns-clause-stands
@@ -38,9 +37,11 @@ returns-clause-stands c =
     (among-part is_plain runs c.self.inside.plain c.self.invariant.plain_are) in
     let best : IfSome c.lesser.result P = subst (λ o. IfSome o P) (sym c.lesser.ensures)
     (among-lesser P c.first-key.result c.first_if_ready-plain.result key bare) in
-    subst (λ rs. IfSome c.first_ready.result (λ run. Contains rs run)) c.self.view_is
-    (c.first_ready.ensures.stands runs best
-    (among-part is_layered runs c.self.inside.layered c.self.invariant.layered_are))
+    let layered : IfSome c.first_ready-layered.result P = among-queue is_layered runs c.self.inside.layered
+    c.self.invariant.layered_are c.first_ready-layered.result c.first_ready-layered.ensures.among in
+    let next : IfSome c.lesser-2.result P = subst (λ o. IfSome o P) (sym c.lesser-2.ensures)
+    (among-lesser P c.lesser.result c.first_ready-layered.result best layered) in
+    subst (λ rs. IfSome c.lesser-2.result (λ run. Contains rs run)) c.self.view_is next
 
 pub returns-clause-sound : goal.returns-clause-sound
 returns-clause-sound c = subst AreStanding c.self.view_is
