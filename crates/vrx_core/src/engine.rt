@@ -85,6 +85,31 @@ fn pli_if(settings: &Settings, key: bool) -> Option<[u8; 12]>
     }
 }
 
+/// The feedback that asks for these numbers, and for a keyframe or not.
+fn asking(settings: &Settings, numbers: &[u64], key: bool) -> Feedback
+    requires near { AreNear numbers.now }
+    ensures nack { result.nack ≡ nack_for settings.now numbers.now }
+    ensures pli { result.pli ≡ pli_for settings.now key }
+{
+    Feedback {
+        nack: nack_unless_none(settings, numbers),
+        pli: pli_if(settings, key),
+    }
+}
+
+/// The same. If there is nothing to ask for, no octets are laid out.
+fn feedback_of(settings: &Settings, numbers: &[u64], key: bool) -> Feedback
+    requires near { AreNear numbers.now }
+    ensures nack { result.nack ≡ nack_for settings.now numbers.now }
+    ensures pli { result.pli ≡ pli_for settings.now key }
+{
+    if numbers.len() == 0 && !key {
+        NO_FEEDBACK
+    } else {
+        asking(settings, numbers, key)
+    }
+}
+
 /// Asks for what is missing, and for a keyframe, once a datagram was handled. One that isn't taken asks for nothing.
 fn ask<C: Codec>(
     assembler: &Assembler<C>,
@@ -106,11 +131,7 @@ fn ask<C: Codec>(
             let front = assembler.front();
             let key = assembler.greatest_key();
             let asks_key = requests.taken(now, arrival, front, key, numbers);
-            let settings = assembler.settings();
-            Feedback {
-                nack: nack_unless_none(settings, numbers.as_slice()),
-                pli: pli_if(settings, asks_key),
-            }
+            feedback_of(assembler.settings(), numbers.as_slice(), asks_key)
         }
     }
 }
@@ -259,10 +280,7 @@ impl<C: Codec> Engine<C> {
             .ticked(now, interval, started, key, &mut self.due);
         self.assembler.give_up_all(self.due.give_up.as_slice());
         let settings = self.assembler.settings();
-        Feedback {
-            nack: nack_unless_none(settings, self.due.ask.as_slice()),
-            pli: pli_if(settings, asks_key),
-        }
+        feedback_of(settings, self.due.ask.as_slice(), asks_key)
     }
 
     /// Gives the decoder the next frame, at this moment in milliseconds.

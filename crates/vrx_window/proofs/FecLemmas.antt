@@ -1,5 +1,5 @@
 -- FEC packets among those that are held, and their marks.
-use Rattle.std.proofs.Common.{◌≡◌, ◌≢◌, ℕ, ◌+◌, ◌%◌, ◌<◌, ◌≤◌, Bool, true, false, cond, ◌&&◌, List, [], ◌∷◌, length, refl, sym, ◌∙◌, ap, arith, inl, inr, nat_cmp, is_lt}
+use Rattle.std.proofs.Common.{◌≡◌, ◌≢◌, ℕ, ◌+◌, ◌%◌, ◌<◌, ◌≤◌, ◌⊎◌, Bool, true, false, cond, ◌&&◌, List, [], ◌∷◌, length, refl, sym, ◌∙◌, ap, arith, inl, inr, nat_cmp, is_lt}
 use Rattle.std.specs.Prelude.{◌==◌, Option, Some, None, is_some, nat_le}
 use Rattle.std.specs.List.{find}
 use Rattle.std.specs.Option.{option_and_then, option_map}
@@ -22,11 +22,12 @@ use Rattle.vrx_window.proofs.NumberLemmas.{inside_with, same_slot}
 use Rattle.vrx_window.proofs.WindowLemmas.{packet_at}
 
 -- a fate was put under a number, and the number's mark made
-module _ (ring after : Numbered Fate) (marks later : List ℕ) (was : IsMarked ring marks) (sound : IsNumbered after)
-    (n : ℕ) (fate : Fate) (young : is_too_old ring.newest n ≡ false)
+module _ (ring after : Numbered Fate) (marks later : List ℕ) (had has : Bool) (was : IsMarked ring marks had)
+    (sound : IsNumbered after) (n : ℕ) (fate : Fate) (young : is_too_old ring.newest n ≡ false)
     (put_in : after.entries ≡ entries_with (newest_with ring.newest n) n fate ring.entries)
     (long : length later ≡ 32) (here : is_fec_fate (Some fate) ≡ true → is_marked later n ≡ true)
-    (others : (m : ℕ) → m % WINDOW ≢ n % WINDOW → is_marked later m ≡ is_marked marks m) where
+    (others : (m : ℕ) → m % WINDOW ≢ n % WINDOW → is_marked later m ≡ is_marked marks m)
+    (one : is_fec_fate (Some fate) ≡ true → has ≡ true) (keeps : had ≡ true → has ≡ true) where
   abbrev next : ℕ
   next = newest_with ring.newest n
 
@@ -41,18 +42,41 @@ module _ (ring after : Numbered Fate) (marks later : List ℕ) (was : IsMarked r
   stays m apart true inside fec =
       others m (λ same. apart (same_slot next m n inside (inside_with ring.newest n young) same)) ∙ was.marked m fec
 
-  marked : (m : ℕ) → is_fec_fate (at m after.entries) ≡ true → is_marked later m ≡ true
-  marked m fec = elim (cases_eq m n) [
-    | inl same ↦
-        ap (is_marked later) same ∙ here (sym (ap is_fec_fate (at_after m
-        ∙ ap (λ b. cond b (Some fate) (cond (in_window next m) (at m ring.entries) None)) (eq-eqb m n same))) ∙ fec)
-    | inr apart ↦
-        stays m apart (in_window next m) refl (sym (ap is_fec_fate (at_after m
-        ∙ ap (λ b. cond b (Some fate) (cond (in_window next m) (at m ring.entries) None)) (ne_eqb m n apart))) ∙ fec)
+  -- a FEC packet is the one that was put in, or was there before
+  either : (m : ℕ) → is_fec_fate (at m after.entries) ≡ true →
+      ((m ≡ n) × (is_fec_fate (Some fate) ≡ true))
+      ⊎ ((m ≢ n) × (is_fec_fate (cond (in_window next m) (at m ring.entries) None) ≡ true))
+  either m fec = elim (cases_eq m n) [
+    | inl same ↦ inl (
+      same,
+      sym (ap is_fec_fate (at_after m
+          ∙ ap (λ b. cond b (Some fate) (cond (in_window next m) (at m ring.entries) None)) (eq-eqb m n same))) ∙ fec,
+    )
+    | inr apart ↦ inr (
+      apart,
+      sym (ap is_fec_fate (at_after m
+          ∙ ap (λ b. cond b (Some fate) (cond (in_window next m) (at m ring.entries) None)) (ne_eqb m n apart))) ∙ fec,
+    )
   ]
 
-  pub marked_after : IsMarked after later
-  marked_after = record { sound = sound; words = long; marked = marked }
+  marked : (m : ℕ) → is_fec_fate (at m after.entries) ≡ true → is_marked later m ≡ true
+  marked m fec = elim (either m fec) [
+    | inl put ↦ ap (is_marked later) put.0 ∙ here put.1
+    | inr old ↦ stays m old.0 (in_window next m) refl old.1
+  ]
+
+  there : (m : ℕ) → (b : Bool) → is_fec_fate (cond b (at m ring.entries) None) ≡ true → had ≡ true
+  there m false fec = absurd (true≢false (sym fec))
+  there m true fec = was.some m fec
+
+  some : (m : ℕ) → is_fec_fate (at m after.entries) ≡ true → has ≡ true
+  some m fec = elim (either m fec) [
+    | inl put ↦ one put.1
+    | inr old ↦ keeps (there m (in_window next m) old.1)
+  ]
+
+  pub marked_after : IsMarked after later has
+  marked_after = record { sound = sound; words = long; marked = marked; some = some }
 
 -- what is held by a fate is a FEC packet just if the fate is one
 held_by : (o : Option Fate) → is_fec_held (option_and_then packet_of o) ≡ is_fec_fate o
@@ -61,14 +85,23 @@ held_by (Some (Taken held)) = refl
 held_by (Some GivenUp) = refl
 
 -- a number that isn't marked has no FEC packet
-pub unmarked : (first : Option ℕ) (ring : Numbered Fate) (marks : List ℕ) → IsMarked ring marks →
+pub unmarked : (first : Option ℕ) (ring : Numbered Fate) (marks : List ℕ) (has : Bool) → IsMarked ring marks has →
     (window : Contents Held) → window_of first ring ≡ window → (k : ℕ) → is_marked marks k ≡ false →
     is_fec_held (at k window.packets) ≡ false
-unmarked first ring marks is window shows k away =
+unmarked first ring marks has is window shows k away =
     ap (λ w. is_fec_held (at k w.packets)) (sym shows)
     ∙ ap is_fec_held (packet_at first ring is.sound k (at k ring.entries) refl)
     ∙ held_by (at k ring.entries)
     ∙ false_from_ne_true (is_fec_fate (at k ring.entries)) (λ fec. true≢false (sym (is.marked k fec) ∙ away))
+
+-- nor has any number, if none was ever placed
+pub never_held : (first : Option ℕ) (ring : Numbered Fate) (marks : List ℕ) → IsMarked ring marks false →
+    (window : Contents Held) → window_of first ring ≡ window → (k : ℕ) → is_fec_held (at k window.packets) ≡ false
+never_held first ring marks is window shows k =
+    ap (λ w. is_fec_held (at k w.packets)) (sym shows)
+    ∙ ap is_fec_held (packet_at first ring is.sound k (at k ring.entries) refl)
+    ∙ held_by (at k ring.entries)
+    ∙ false_from_ne_true (is_fec_fate (at k ring.entries)) (λ fec. true≢false (sym (is.some k fec)))
 
 none_held : (o : Option Held) → is_some o ≡ false → is_fec_held o ≡ false
 none_held None h = refl
@@ -175,14 +208,14 @@ unheld_beyond window is newest newest_is k beyond = unheld_outside window is k
     (ap (λ o. is_inside o k) newest_is ∙ (let out : is_inside (Some newest) k ≡ false = grind (arith, common_steps) in out))
 
 -- the numbers so far had none, and those after them aren't marked
-module _ (first : Option ℕ) (ring : Numbered Fate) (marks : List ℕ) (is : IsMarked ring marks)
+module _ (first : Option ℕ) (ring : Numbered Fate) (marks : List ℕ) (has : Bool) (is : IsMarked ring marks has)
     (window : Contents Held) (shows : window_of first ring ≡ window) (from n next : ℕ)
     (so_far : (k : ℕ) → from ≤ k → k < n → is_fec_held (at k window.packets) ≡ false)
     (passed : (k : ℕ) → n ≤ k → k < next → is_marked marks k ≡ false) where
   pub none_before_next : (k : ℕ) → from ≤ k → k < next → is_fec_held (at k window.packets) ≡ false
   none_before_next k upto before = elim (cases_lt k n) [
     | inl less ↦ so_far k upto less
-    | inr more ↦ unmarked first ring marks is window shows k (passed k more before)
+    | inr more ↦ unmarked first ring marks has is window shows k (passed k more before)
   ]
 
   pub none_upto_next : is_fec_held (at next window.packets) ≡ false → (k : ℕ) → from ≤ k → k < next + 1 →

@@ -24,8 +24,9 @@ is_fec_fate (Some (Taken held)) = is_fec held
 is_fec_fate (Some GivenUp) = false
 
 -- What always holds of a ring with marks: there are 32 words, and each number under which a FEC packet is held is
--- marked.
-pub record IsMarked (ring : Numbered Fate) (marks : List ℕ) : Type 0 where
+-- marked. If no FEC packet was ever placed, none is held.
+pub record IsMarked (ring : Numbered Fate) (marks : List ℕ) (has_fec : Bool) : Type 0 where
   pub sound : IsNumbered ring
   pub words : length marks ≡ WORDS
   pub marked : (n : ℕ) → is_fec_fate (at n ring.entries) ≡ true → is_marked marks n ≡ true
+  pub some : (n : ℕ) → is_fec_fate (at n ring.entries) ≡ true → has_fec ≡ true

@@ -27,6 +27,7 @@ pub struct Window {
     first: Option<u64>,
     ring: Ring<Fate>,
     marks: [u64; WORDS],
+    has_fec: bool,
 }
 
 impl Model for Window {
@@ -40,7 +41,7 @@ impl Model for Window {
 
     ghost view = { λ a. window_of a.first a.ring };
 
-    ghost invariant = { λ a. IsMarked a.ring a.marks };
+    ghost invariant = { λ a. IsMarked a.ring a.marks a.has_fec };
 }
 
 impl Window {
@@ -53,6 +54,7 @@ impl Window {
             first: None,
             ring,
             marks: [0; WORDS],
+            has_fec: false,
         })
     }
 
@@ -87,6 +89,9 @@ impl Window {
         ensures next { result ≡ next_fec from self.now.packets }
     {
         let newest = self.newest()?;
+        if !self.has_fec {
+            return None;
+        }
         let mut n = from.max(newest.saturating_sub(WINDOW - 1));
         while n <= newest {
             n = next_marked(&self.marks, n, newest);
@@ -134,6 +139,7 @@ impl Window {
         let marked = held.is_fec();
         self.ring.place(n, Fate::Taken(held));
         mark(&mut self.marks, n, marked);
+        self.has_fec = self.has_fec | marked;
         self.first = Some(self.first.unwrap_or(n));
     }
 

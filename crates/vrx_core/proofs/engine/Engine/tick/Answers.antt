@@ -32,30 +32,30 @@ give_up_all-requires g c = record {
       c.self.inside.requests.asks c.ticked-asks_key.ensures.sound c.self.invariant.fresh));
 }
 
-pub nack_unless_none-requires : goal.nack_unless_none-requires
-nack_unless_none-requires g c = record {
+pub feedback_of-requires : goal.feedback_of-requires
+feedback_of-requires g c = record {
   near = subst AreNear (sym (c.as_slice-2.ensures.value ∙ c.ticked-asks_key.ensures.numbers))
       (near-asked c.now-now.result c.settings.result.now.interval c.self.inside.requests.asks
       c.ticked-asks_key.ensures.sound);
 }
 
 -- the clock and the settings at the tick
-now-is : (g : given.Over) (c : goal.After-pli_if g) →
+now-is : (g : given.Over) (c : goal.After-feedback_of g) →
     c.now-now.result ≡ max c.self.inside.assembler.clock c.args.moment
 now-is g c = c.now-now.ensures.value ∙ ap (λ (a : Assembly). a.clock) c.count.ensures.counted
 
-settings-are : (g : given.Over) (c : goal.After-pli_if g) → c.settings.result.now ≡ c.self.inside.assembler.settings
+settings-are : (g : given.Over) (c : goal.After-feedback_of g) → c.settings.result.now ≡ c.self.inside.assembler.settings
 settings-are g c = c.settings.ensures.value ∙ ap (λ (a : Assembly). a.settings) c.count.ensures.counted
 
 -- the assembly after it
-numbers-are : (g : given.Over) (c : goal.After-pli_if g) →
+numbers-are : (g : given.Over) (c : goal.After-feedback_of g) →
     c.as_slice.result.now ≡ given_up_numbers
     (max c.self.inside.assembler.clock c.args.moment) c.self.inside.assembler.settings.interval
     c.self.inside.requests.asks
 numbers-are g c = c.as_slice.ensures.value ∙ c.ticked-asks_key.ensures.lost
     ∙ (λ i. given_up_numbers (now-is g c i) (settings-are g c i).interval c.self.inside.requests.asks)
 
-after-is : (g : given.Over) (c : goal.After-pli_if g) →
+after-is : (g : given.Over) (c : goal.After-feedback_of g) →
     c.give_up_all.new.self ≡ record (after_counting c.self.inside.assembler c.args.moment) {
       window =
           given_up_all (given_up_numbers
@@ -70,17 +70,17 @@ after-is g c =
     }) (numbers-are g c)
 
 -- what is wanted after it
-started-is : (g : given.Over) (c : goal.After-pli_if g) →
+started-is : (g : given.Over) (c : goal.After-feedback_of g) →
     c.is_some-started.result ≡ is_some c.self.inside.assembler.window.newest
 started-is g c = c.is_some-started.ensures ∙ ap (λ (o : Option ℕ). is_some o) c.newest.ensures.value
     ∙ ap (λ (a : Assembly). is_some a.window.newest) c.count.ensures.counted
 
-key-is : (g : given.Over) (c : goal.After-pli_if g) →
+key-is : (g : given.Over) (c : goal.After-feedback_of g) →
     c.greatest_key-key.result ≡ greatest_of (key_numbers c.self.inside.assembler.frames)
 key-is g c = c.greatest_key-key.ensures.value
     ∙ ap (λ (a : Assembly). greatest_of (key_numbers a.frames)) c.count.ensures.counted
 
-wanted-is : (g : given.Over) (c : goal.After-pli_if g) →
+wanted-is : (g : given.Over) (c : goal.After-feedback_of g) →
     c.ticked-asks_key.new.self ≡ wanted_ticked
     (max c.self.inside.assembler.clock c.args.moment) c.self.inside.assembler.settings.interval
     (is_some c.self.inside.assembler.window.newest)
@@ -114,14 +114,14 @@ returns-clause-stands g c =
     (tick-stands-for c.runs_are.ensures g.C.Codec.meaning i.assembler c.give_up_all.new.self i.requests c.args.moment
     h stands c.ticked-asks_key.ensures.sound (after-is g c)))
 
-asked-are : (g : given.Over) (c : goal.After-pli_if g) →
+asked-are : (g : given.Over) (c : goal.After-feedback_of g) →
     c.as_slice-2.result.now ≡ asked_numbers
     (max c.self.inside.assembler.clock c.args.moment) c.self.inside.assembler.settings.interval
     c.self.inside.requests.asks
 asked-are g c = c.as_slice-2.ensures.value ∙ c.ticked-asks_key.ensures.numbers
     ∙ (λ i. asked_numbers (now-is g c i) (settings-are g c i).interval c.self.inside.requests.asks)
 
-asks-is : (g : given.Over) (c : goal.After-pli_if g) →
+asks-is : (g : given.Over) (c : goal.After-feedback_of g) →
     c.ticked-asks_key.result ≡ asks_key (max c.self.inside.assembler.clock c.args.moment)
     (needs_key (max c.self.inside.assembler.clock c.args.moment) c.self.inside.assembler.settings.interval
     (is_some c.self.inside.assembler.window.newest)
@@ -136,12 +136,12 @@ pub returns-clause-reply : goal.returns-clause-reply
 returns-clause-reply g c =
     let i = c.self.inside in
     subst (λ (p : EngineParts). (h : List Event) → StandsFor g.C.Codec.meaning p h →
-    ToTick (record { nack = c.nack_unless_none.result; pli = c.pli_if.result }) ≡ reply p.settings g.C.Codec.meaning h
+    ToTick c.feedback_of.result ≡ reply p.settings g.C.Codec.meaning h
     (Tick c.args.moment)) c.self.view_is
     (λ h stands.
     (λ j. ToTick (record {
-      nack = (c.nack_unless_none.ensures ∙ (λ k. nack_for (c.settings-settings.ensures.value k) (asked-are g c k))) j;
-      pli = (c.pli_if.ensures ∙ (λ k. pli_for (c.settings-settings.ensures.value k) (asks-is g c k))) j;
+      nack = (c.feedback_of.ensures.nack ∙ (λ k. nack_for (c.settings-settings.ensures.value k) (asked-are g c k))) j;
+      pli = (c.feedback_of.ensures.pli ∙ (λ k. pli_for (c.settings-settings.ensures.value k) (asks-is g c k))) j;
     }))
     ∙ tick-reply c.runs_are.ensures g.C.Codec.meaning i.assembler c.give_up_all.new.self i.requests c.args.moment h
     stands c.ticked-asks_key.ensures.sound (after-is g c))

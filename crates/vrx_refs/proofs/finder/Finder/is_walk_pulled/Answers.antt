@@ -23,14 +23,14 @@ returns-then-met-eq0 c = sym (ends c.args.self.now c.args.place (REACH - c.loop-
     c.loop-step.met c.loop-step.invariant (omega (arith, c.loop-step-test.true)) (omega (arith, c.if-below-eq0.false))
     c.in-Some.sight (sym c.sight.ensures ∙ c.in-Some.is)
     (λ counts. let first : c.is_first.result ≡ true
-          = c.is_first.ensures.first c.loop-step.invariant.list c.loop-step.invariant.is_met ∙ counts in
-        elim c.else-is_first.branch [
-          else-is_first-via-then-is_first+else-not-sight w ↦ grind (arith, common_steps, w.if-not-sight.false)
-          | else-is_first-via-else-is_first w ↦ grind (arith, common_steps, first, w.if-is_first.false)
-        ])
+    = c.is_first.ensures.first c.loop-step.invariant.list c.loop-step.invariant.is_met ∙ counts in
+    elim c.else-is_first.branch [
+      | else-is_first-via-then-is_first+else-not-sight w ↦ grind (arith, common_steps, w.if-not-sight.false)
+      | else-is_first-via-else-is_first w ↦ grind (arith, common_steps, first, w.if-is_first.false)
+    ])
     c.with-met.result (c.with-met.ensures c.loop-step.invariant.list (c.loop-step.below - 1) c.loop-step.invariant.is_met)
     (elim c.then-met-eq0.branch [
-      then-met-eq0-via-then-met-eq0 w ↦ inl w.if-met-eq0.true
+      | then-met-eq0-via-then-met-eq0 w ↦ inl w.if-met-eq0.true
       | then-met-eq0-via-else-met-eq0+then-sight w ↦ inr w.if-sight.true
     ]))
 
@@ -40,10 +40,10 @@ loop-step-preserved c = subst (λ most. WalksOn c.args.self.now c.args.place mos
     c.loop-step.met c.loop-step.invariant (omega (arith, c.loop-step-test.true)) (omega (arith, c.if-below-eq0.false))
     c.in-Some.sight (sym c.sight.ensures ∙ c.in-Some.is)
     (λ counts. let first : c.is_first.result ≡ true
-          = c.is_first.ensures.first c.loop-step.invariant.list c.loop-step.invariant.is_met ∙ counts in
-        elim c.else-is_first.branch [
-          else-is_first-via-then-is_first+else-not-sight w ↦ grind (arith, common_steps, w.if-not-sight.false)
-          | else-is_first-via-else-is_first w ↦ grind (arith, common_steps, first, w.if-is_first.false)
-        ])
+    = c.is_first.ensures.first c.loop-step.invariant.list c.loop-step.invariant.is_met ∙ counts in
+    elim c.else-is_first.branch [
+      | else-is_first-via-then-is_first+else-not-sight w ↦ grind (arith, common_steps, w.if-not-sight.false)
+      | else-is_first-via-else-is_first w ↦ grind (arith, common_steps, first, w.if-is_first.false)
+    ])
     c.with-met.result (c.with-met.ensures c.loop-step.invariant.list (c.loop-step.below - 1) c.loop-step.invariant.is_met)
     c.if-met-eq0.false c.if-sight.false)

@@ -20,6 +20,7 @@ returns c =
 pub invariant_of-self : goal.invariant_of-self
 invariant_of-self c =
     let fresh = fresh_is (window_of c.self.inside.first c.self.inside.ring) c.args.n (ap (λ w. would_of w c.args.n) c.self.view_is ∙ c.requires.fresh) in
-    marked_after c.self.inside.ring c.place.new.self c.self.inside.marks c.self.inside.marks c.self.invariant
+    marked_after c.self.inside.ring c.place.new.self c.self.inside.marks c.self.inside.marks
+    c.self.inside.has_fec c.self.inside.has_fec c.self.invariant
     c.place.ensures.sound c.args.n GivenUp fresh.young c.place.ensures.entries c.self.invariant.words
-    (λ fec. absurd (true≢false (sym fec))) (λ m apart. refl)
+    (λ fec. absurd (true≢false (sym fec))) (λ m apart. refl) (λ fec. absurd (true≢false (sym fec))) (λ had. had)
