@@ -21,6 +21,7 @@ pub mod BeginLemmas
 pub mod FrontLemmas
 pub mod HoldsLemmas
 pub mod EvidentLemmas
+pub mod UnbrokenLemmas
 pub mod ReadyLemmas
 pub mod LossLemmas
 pub mod HonestLemmas

@@ -15,13 +15,15 @@ use vrx_wrap::one_original;
 /// frames packets without a payload and FEC packets, each of which is true parity of media packets before it (RFC 5109
 /// 8). An honest network brings what was sent, each packet plain, in RED, sent again, or in RED and sent again (a FEC
 /// packet in RED, sent again or not), with padding or without, with loss, repeats and in any order, each packet at most
-/// 32,768 places away from the greatest one taken, and beside it only octets that are RTCP or are refused whatever
-/// came before. Then the frames pulled are frames that were sent, byte for byte, in the order in which they were sent,
-/// each at most once, from a keyframe on, and each after its chain and its references. Each pull is answered by the
-/// least frame that is ready, and by `NotReady` exactly if none is. Each packet that an event gives up brings a
-/// request for a keyframe in the reply to that event, unless a keyframe that begins beyond the packet stands or was
-/// pulled, or an earlier request is outstanding and no keyframe completes with the event. It holds for all settings
-/// without a fault and every codec's meaning.
+/// 32,768 places away from the greatest one taken, and beside it only octets that are RTCP or are refused whatever came
+/// before. Either no frame has layers, or all have, by the rules of `KeepsLayers`; and each packet with layers that is
+/// taken or repaired is of a frame fewer than 16,384 pictures away from the newest before it. Then the frames pulled
+/// are frames that were sent, byte for byte, in the order in which they were sent, each at most once, from a keyframe
+/// on, and each after its chain and its references; and none of them comes after a packet of it, or of a frame in its
+/// chain, was given up. Each pull is answered by the least frame that is ready, and by `NotReady` exactly if none is.
+/// Each packet that an event gives up brings a request for a keyframe in the reply to that event, unless a keyframe
+/// that begins beyond the packet stands or was pulled, or an earlier request is outstanding and no keyframe completes
+/// with the event. It holds for all settings without a fault and every codec's meaning.
 pub fn honest_call()
     ensures honest { HonestCallHolds }
 {
@@ -54,8 +56,9 @@ pub fn honest_taken()
 }
 
 /// The runs of an honest call, after each of its events. Each run that stands is a frame that was sent: it has the
-/// numbers of the frame's packets, its timestamp, its kind and its bytes. And each frame all of whose packets are
-/// available, which lies beyond every frame pulled, and of which it is evident where it begins, is a run that stands.
+/// numbers of the frame's packets, its timestamp, its kind, its bytes and its layers, the picture in 15 bits. And each
+/// frame all of whose packets are available, which lies beyond every frame pulled, and of which it is evident where it
+/// begins, is a run that stands.
 pub fn honest_runs()
     ensures runs { HonestRunsHolds }
 {

@@ -123,7 +123,7 @@ last-passed settings codec (Pull moment ∷ h) =
     last-pull codec past moment (next_run (latest past)) (last-passed settings codec h)
 
 -- a number up to a passed one is passed
-passed-upto : (front : Option ℕ) (l m : ℕ) → is_passed front l ≡ true → m ≤ l → is_passed front m ≡ true
+pub passed-upto : (front : Option ℕ) (l m : ℕ) → is_passed front l ≡ true → m ≤ l → is_passed front m ≡ true
 passed-upto None l m h upto = absurd (true≢false (sym h))
 passed-upto (Some f) l m h upto = let most : l ≤ f = leb-true l f h in le-leb m f (omega (arith, upto, most))
 

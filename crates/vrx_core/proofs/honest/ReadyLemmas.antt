@@ -2,7 +2,7 @@
 use Rattle.std.proofs.Common.{◌≡◌, ◌↔◌, ℕ, zero, suc, ◌+◌, ◌-◌, ◌<◌, ◌≤◌, ◌⊎◌, Bool, true, false, cond, ◌&&◌, List, [], ◌∷◌, map, length, slice_get, Contains, All, Option, Some, None, IfSome, IsSomeAnd, is_some, refl, sym, ◌∙◌, ap, subst, arith, inl, inr}
 use Rattle.std.specs.List.{AllByRecursion}
 use Rattle.std.specs.Option.{option_map_or}
-use Rattle.std.proofs.lemmas.Bool.{and_parts, and_from, or_cases, or_left, or_right, both_ways, true≢false, leb-true, le-leb}
+use Rattle.std.proofs.lemmas.Bool.{and_parts, and_from, or_cases, or_left, or_right, both_ways, true≢false, leb-true}
 use Rattle.std.proofs.lemmas.Option.{slice_get_within, slice_get-get_or, same_Some}
 use Rattle.std.proofs.lemmas.List.Elements.{All-from_recursion, recursion_from_All}
 use Rattle.vrx_codec.specs.Meaning.{Meaning}
@@ -38,6 +38,7 @@ use Rattle.vrx_core.proofs.machine.MemberLemmas.{Contains-empty, Contains-head, 
 use Rattle.vrx_core.proofs.machine.TestLemmas.{list_any-from}
 use Rattle.vrx_core.proofs.machine.PulledLemmas.{beyond-every, beyond-last, stands-beyond}
 use Rattle.vrx_core.proofs.machine.StandingLemmas.{IsRunNow, stands_from, standing_is, standing-from, standing-to}
+use Rattle.vrx_core.proofs.asking.FrontLemmas.{passed-upto}
 use Rattle.vrx_core.proofs.honest.NumberLemmas.{IsNewestOf, IsNumber-upto}
 use Rattle.vrx_core.proofs.honest.KeepsLemmas.{Came, near-number, one-number, one-place}
 use Rattle.vrx_core.proofs.honest.KeptLemmas.{kept-there}
@@ -48,6 +49,7 @@ use Rattle.vrx_core.proofs.honest.PlaceLemmas.{available-came, same-place}
 use Rattle.vrx_core.proofs.honest.FrontLemmas.{IsFrontOf}
 use Rattle.vrx_core.proofs.honest.HoldsLemmas.{IsPulled, ArePulled, Holds, below_bound, bound_of, bound_upto, frame_after}
 use Rattle.vrx_core.proofs.honest.LastLemmas.{placed, some_if}
+use Rattle.vrx_core.proofs.honest.UnbrokenLemmas.{available-unbroken, pulled-passed, pulled-unbroken}
 use Rattle.vrx_core.proofs.honest.EvidentLemmas.{has_reference, layers-from, layers-to, run_none, run_pulled, was-from, was-to}
 
 -- what holds of each of a list holds of one in it
@@ -128,12 +130,6 @@ next_evident told pulled front run h no_key layers =
 last_there : (runs : List Run) (run : Run) → Contains runs run → is_some (last_pulled runs) ≡ true
 last_there [] run c = absurd (omega arith)
 last_there (r ∷ rs) run c = refl
-
--- a number before one that is passed is passed
-passed_below : (front : Option ℕ) (m n : ℕ) → n ≤ m → is_passed front m ≡ true → is_passed front n ≡ true
-passed_below None m n upto passed = absurd (true≢false (sym passed))
-passed_below (Some front) m n upto passed =
-    let less : m ≤ front = leb-true m front passed in le-leb n front (omega (arith, less, upto))
 
 -- a number up to another, or after it
 before_or_behind : (n m : ℕ) → (n ≤ m) ⊎ (m < n)
@@ -395,30 +391,11 @@ module _ (are : RunsAre) (settings : Settings) (codec : Meaning) (sender : Sende
             first_is = refl;
           }
 
-      -- a number up to the last of a frame that was pulled is passed
-      pulled-passed : (run : Run) (n : ℕ) → Contains (latest (snapshots settings codec h)).pulled run → n ≤ run.last →
-          is_passed front_now n ≡ true
-      pulled-passed run n there upto = by_last pulled_now front_now refl holds.front where
-        by_last : (last front : Option ℕ) → pulled_now ≡ last → IsFrontOf sender js last front →
-            is_passed front n ≡ true
-        by_last None front is of =
-            absurd (true≢false (sym (last_there (latest (snapshots settings codec h)).pulled run there)
-            ∙ ap is_some is))
-        by_last (Some last) None is of = absurd of
-        by_last (Some last) (Some front) is of =
-            let all : All (λ r. r.last < last + 1) (latest (snapshots settings codec h)).pulled =
-            beyond-every are settings codec h (last + 1)
-            (subst (λ (o : Option ℕ). IfSome o (λ l. l < last + 1)) (sym is) (omega arith)) in
-            let less : run.last < last + 1 =
-            of_all (λ r. r.last < last + 1) (latest (snapshots settings codec h)).pulled run all there in
-            let more : last ≤ front = of.0 in
-            le-leb n front (omega arith)
-
       -- if the numbers between a frame that was pulled and another one are passed, so is that before the other
       was_passed : (g first : ℕ) (was : WasPulled settings codec sender h origins g) → was.run.last < first →
           IsPassedUpTo settings codec sender h origins g first → is_passed front_now (first - 1) ≡ true
       was_passed g first was less passed = elim (before_or_behind (first - 1) was.run.last) [
-        | inl upto ↦ pulled-passed was.run (first - 1) was.pulled upto
+        | inl upto ↦ pulled-passed are settings codec h was.run (first - 1) was.pulled upto
         | inr after ↦ passed was (first - 1) after (omega arith)
       ]
 
@@ -631,8 +608,8 @@ module _ (are : RunsAre) (settings : Settings) (codec : Meaning) (sender : Sende
           | inl keeps ↦ (layers_known keeps delta).0
           | inr none ↦ subst (λ (o : Option Place). IsEvident settings codec sender h origins f run.first o)
               (sym (no_layers none f is_frame.frame is_frame.sent))
-              (λ g at was n above below. passed_below front_now (run.first - 1) n (omega (arith, below))
-              (follows_last none delta).1)
+              (λ g at was n above below. passed-upto front_now (run.first - 1) n
+              (follows_last none delta).1 (omega (arith, below)))
         ]
 
         -- its chain was pulled
@@ -760,6 +737,10 @@ module _ (are : RunsAre) (settings : Settings) (codec : Meaning) (sender : Sende
           first = refl;
           last = refl;
           sent = record { ts = is_frame.ts; key = is_frame.key; bytes = is_frame.bytes };
+          kept = available-unbroken are settings codec sender h origins f run.first run.last is_frame.numbered
+              answer_available;
+          chain_kept = λ g chain. pulled-unbroken are settings codec sender h origins g
+              (was-to settings codec sender honest h origins fs holds g (answer_chain g chain));
         }
 
         -- it is the sender's frame of this place

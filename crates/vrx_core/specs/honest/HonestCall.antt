@@ -1,6 +1,6 @@
 -- The honest call: what a receiver answers if an honest network brings what an honest sender sent. The frames pulled
--- are the sender's. And each packet that is given up brings a request for a keyframe, unless one is outstanding or a
--- later keyframe answers it.
+-- are the sender's, and none of them comes after a packet of it, or of a frame in its chain, was given up. And each
+-- packet that is given up brings a request for a keyframe, unless one is outstanding or a later keyframe answers it.
 use Rattle.std.specs.Prelude.{◌≡◌, ◌⊎◌, ℕ, ◌≤◌, true, false, List, [], ◌∷◌, slice_get, All, Contains, IfSome, IsSomeAnd, Option, Some, None}
 use Rattle.std.specs.List.{filter_map}
 use Rattle.std.specs.List.Sorted.{IsStrictlyIncreasing}
@@ -11,10 +11,11 @@ use Rattle.vrx_core.specs.machine.SettingsFault.{fault_of}
 use Rattle.vrx_core.specs.machine.Asking.{IsOutstanding}
 use Rattle.vrx_core.specs.machine.KeyRequest.{is_answered}
 use Rattle.vrx_core.specs.machine.Machine.{Reply, ToDatagram, ToTick, ToPull, Snapshot, latest, snapshots, replies}
-use Rattle.vrx_core.specs.honest.Sender.{SentFrame, Sender}
+use Rattle.vrx_core.specs.honest.Sender.{SentFrame, IsOf, Sender}
 use Rattle.vrx_core.specs.honest.Chain.{InChain}
 use Rattle.vrx_core.specs.honest.HonestSender.{HonestSender}
 use Rattle.vrx_core.specs.honest.HonestNetwork.{Origin, HonestNetwork, packets_taken}
+use Rattle.vrx_core.specs.honest.HonestTaken.{WasGivenUp}
 use Rattle.vrx_core.specs.honest.Ready.{IsNumber, Ready}
 use Rattle.vrx_core.specs.declared.settings.Settings.{Settings}
 use Rattle.vrx_core.specs.declared.event.Event.{Event}
@@ -28,6 +29,11 @@ pub record IsSentFrame (sent : SentFrame) (frame : Frame) : Type 0 where
   pub key : frame.key ≡ sent.key
   pub bytes : frame.bytes ≡ sent.bytes
 
+-- no packet of frame f was given up in a history
+abbrev pub NoneGivenUp : Settings → Meaning → Sender → List Event → List Origin → ℕ → Type 0
+NoneGivenUp settings codec sender h origins f = (i : ℕ) → IsSomeAnd (slice_get sender.packets i) (IsOf f) →
+    WasGivenUp settings codec sender h origins i → ⊥
+
 -- a frame pulled after a history is the sender's frame f, under its packets' numbers; f is ready, and the least that
 -- is
 pub record IsLeastReady (settings : Settings) (codec : Meaning) (sender : Sender) (h : List Event)
@@ -37,6 +43,9 @@ pub record IsLeastReady (settings : Settings) (codec : Meaning) (sender : Sender
   pub first : frame.first ≡ ready.complete.first
   pub last : frame.last ≡ ready.complete.last
   pub sent : IsSentFrame ready.complete.frame frame
+  -- no packet of it, or of a frame in its chain, was given up before
+  pub kept : NoneGivenUp settings codec sender h origins f
+  pub chain_kept : (g : ℕ) → InChain sender f g → NoneGivenUp settings codec sender h origins g
 
 -- a pull gives the least ready frame, of this place, and NotReady exactly if no frame is ready. What gives no
 -- frame has no place
@@ -126,9 +135,9 @@ LossesAsked settings codec sender h origins (e ∷ es) (o ∷ os) (r ∷ rs) =
 LossesAsked settings codec sender h origins _ _ _ = ⊥
 
 -- the frames pulled are the sender's, byte for byte, in order, each at most once, from a keyframe on, and after all
--- their references. Each pull is answered by the least ready frame, or by NotReady exactly if none is ready. Each
--- packet that is given up brings a request for a keyframe with the event that gives it up, unless one is outstanding
--- or a later keyframe answers it
+-- their references; and none of them comes after a packet of it, or of a frame in its chain, was given up. Each pull is
+-- answered by the least ready frame, or by NotReady exactly if none is ready. Each packet that is given up brings a
+-- request for a keyframe with the event that gives it up, unless one is outstanding or a later keyframe answers it
 pub record HonestCall (settings : Settings) (codec : Meaning) (sender : Sender) (events : List Event)
     (origins : List Origin) (replies : List Reply) : Type 0 where
   -- the place of the frame that each event gives, if it gives one

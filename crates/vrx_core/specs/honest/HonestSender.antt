@@ -64,7 +64,7 @@ AreParts settings codec sender f frame count k i (carried ∷ others) =
     × AreParts settings codec sender f frame count (k + 1) (i + 1) others
 
 -- frame f travels in the packets from this place on: they are its parts, of which there is at least one, and join to
--- its bytes; it is a keyframe if some part says so
+-- its bytes; it is a keyframe exactly if some part says so
 pub record Travels (settings : Settings) (codec : Meaning) (sender : Sender) (f : ℕ) (frame : SentFrame) (place : ℕ)
     (parts : List CarriedPart) : Type 0 where
   pub some : 0 < length parts
