@@ -5,7 +5,8 @@ use Rattle.vrx_core.specs.honest.Sender.{SentFrame, Sender}
 use Rattle.vrx_core.specs.honest.Layers.{IsLastOf, IsLastUpTo, is_on_base}
 
 -- a frame with layers refers to its base: the last frame of TID 0 before it. One that doesn't refer to its base only
--- refers to the last frame of each TID up to its own, but to none before the last keyframe
+-- refers to the last frame of each TID up to its own, but to none before the last keyframe, which is this project's own
+-- rule
 abbrev pub RefersBy : List SentFrame → Place → Bool → (f g : ℕ) → Type 0
 RefersBy frames place true f g = IsLastOf frames 0 f g
 RefersBy frames place false f g = IsLastUpTo frames place.tid f g

@@ -21,8 +21,8 @@ abbrev pub greatest : List ℕ → ℕ
 greatest [] = 0
 greatest (i ∷ is) = max i (greatest is)
 
--- no packet was taken yet, or packet i is at most 32,768 away from the greatest that was; what is repaired is never
--- greater
+-- no packet was taken yet, or packet i is at most 32,768 away from the greatest that was, which is half of the space of
+-- sequence numbers (RFC 3550 5.1). Each packet that is repaired has a smaller number than the FEC packet that names it
 abbrev pub IsNear : ℕ → List ℕ → Type 0
 IsNear i [] = Unit {0}
 IsNear i (j ∷ js) = (i ≤ greatest (j ∷ js) + HALF_SPACE) × (greatest (j ∷ js) ≤ i + HALF_SPACE)
@@ -47,7 +47,8 @@ pub record IsNewestTold (sender : Sender) (js : List ℕ) (told : Told) (g : ℕ
   pub newest : (other : ℕ × Place) (f : ℕ) → Contains told other → IsOfFrame sender js other.0 f → f ≤ g
 
 -- The frame of which a packet told a place is fewer than 16,384 pictures away from the newest one of which a place was
--- told before; the frames' pictures rise by one. The packets that told places stand the newest first
+-- told before, which is half of the space of 15 bits (RFC 7741 4.2); the frames' pictures rise by one. The packets that
+-- told places stand the newest first
 abbrev pub AreNearTold : Sender → List ℕ → Told → Type 0
 AreNearTold sender js [] = Unit {0}
 AreNearTold sender js (entry ∷ told) = ((f g : ℕ) → IsOfFrame sender js entry.0 f → IsNewestTold sender js told g →

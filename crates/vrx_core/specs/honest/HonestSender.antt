@@ -24,8 +24,8 @@ pub record CarriedPart : Type 0 where
   pub part : Part
 
 -- a media packet of the stream, under this sequence number: its text has at most 9,216 octets, each below 256, and
--- reads as an RTP packet without padding, with the media type and the media SSRC; its payload isn't empty and is read
--- by the codec (RFC 3550 5.1)
+-- reads as an RTP packet without padding, with the media type and the media SSRC (RFC 3550 5.1); its payload isn't
+-- empty and is read by the codec. The limit on its octets is this project's own
 pub record IsMedia (settings : Settings) (codec : Meaning) (wire : ℕ) (carried : CarriedPart) : Type 0 where
   pub size : length carried.text ≤ MOST_OCTETS
   pub below : AreOctets carried.text
@@ -118,6 +118,6 @@ pub record HonestSender (settings : Settings) (codec : Meaning) (sender : Sender
       IfSome (slice_get sender.frames f) (λ frame. All (λ g. InChain sender f g) frame.references)
   -- all frames have layers, by the rules, or none has
   pub layers : LayersAreRight sender.frames
-  -- frames beside each other have different timestamps
+  -- frames beside each other have different timestamps, which is this project's own rule
   pub apart : (f : ℕ) → IfSome (slice_get sender.frames f)
       (λ frame. IfSome (slice_get sender.frames (f + 1)) (λ after. frame.ts ≢ after.ts))

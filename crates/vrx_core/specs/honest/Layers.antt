@@ -1,4 +1,5 @@
--- Temporal layers among a sender's frames (RFC 7741 4.2). A frame is named by its place in the list, from 0 on.
+-- Temporal layers among a sender's frames (RFC 7741 4.2). A frame is named by its place in the list, from 0 on. That a
+-- frame of TID 0 comes at most 127 pictures after the one before is this project's own rule.
 use Rattle.std.specs.Prelude.{◌≡◌, ◌⊎◌, ℕ, ◌+◌, ◌<◌, ◌≤◌, Bool, true, ◌||◌, ◌==◌, if◌then◌else◌, List, slice_get, Option, None, IfSome, IsSomeAnd}
 use Rattle.std.specs.Option.{option_and_then}
 use Rattle.vrx_num.specs.Index.{index_after}

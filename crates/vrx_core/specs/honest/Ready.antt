@@ -66,7 +66,8 @@ IsPassedUpTo settings codec sender h origins g first =
     (pulled : WasPulled settings codec sender h origins g) (n : ℕ) → pulled.run.last < n → n < first →
     is_passed (latest (snapshots settings codec h)).front n ≡ true
 
--- the stop of frame f lies at most 255 pictures before it, and a packet of each frame from it up to f has come
+-- the stop of frame f lies at most 255 pictures before it, and a packet of each frame from it up to f has come. How far
+-- back a receiver looks is this project's own limit
 pub record StopIsSeen (settings : Settings) (codec : Meaning) (sender : Sender) (h : List Event)
     (origins : List Origin) (tid f : ℕ) : Type 0 where
   pub at : ℕ
