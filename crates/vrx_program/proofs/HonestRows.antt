@@ -133,7 +133,7 @@ third_part = record {
 }
 
 -- octets, as a test
-are_octets : (octets : List ℕ) → list_all (λ octet. nat_lt octet 256) octets ≡ true → AreOctets octets
+pub are_octets : (octets : List ℕ) → list_all (λ octet. nat_lt octet 256) octets ≡ true → AreOctets octets
 are_octets octets h = All-from_recursion (λ octet. octet < 256) octets (each octets h) where
   each : (os : List ℕ) → list_all (λ octet. nat_lt octet 256) os ≡ true → AllByRecursion (λ octet. octet < 256) os
   each [] h = tt
@@ -215,7 +215,7 @@ first_travels = record {
 }
 
 -- what is in a list of one is that one
-only_one : {X : Type 0} (x y : X) → Contains (x ∷ []) y → x ≡ y
+pub only_one : {X : Type 0} (x y : X) → Contains (x ∷ []) y → x ≡ y
 only_one x y c = at_place c.0 c.1 c.2 where
   at_place : (k : ℕ) → k < length (x ∷ []) → slice_index_or (x ∷ []) k y ≡ y → x ≡ y
   at_place zero within is = is
@@ -304,7 +304,7 @@ sender-honest = record {
   last (suc f) = tt
 
 -- octets that read as a packet carry it
-carry : (octets : List ℕ) (packet : Packet) → nat_le (length octets) MOST_OCTETS ≡ true →
+pub carry : (octets : List ℕ) (packet : Packet) → nat_le (length octets) MOST_OCTETS ≡ true →
     list_all (λ octet. nat_lt octet 256) octets ≡ true → read octets ≡ Some packet →
     Carries octets (without_padding packet)
 carry octets packet short small reads = record {

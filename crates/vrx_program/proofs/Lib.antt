@@ -16,3 +16,4 @@ pub mod EvidentLemmas
 pub mod EngineRows
 pub mod HonestRows
 pub mod Rows
+pub mod WholeCallRows
