@@ -81,6 +81,9 @@ impl Queue {
             result ≡ find (is_deliverable told pulled passed) self.now }
         ensures among { IfSome result (λ run. Contains self.now run) }
     {
+        if self.runs.is_empty() {
+            return None;
+        }
         let (front, back) = self.runs.as_slices();
         match finder.first_ready(front, passed) {
             Some(run) => Some(run),

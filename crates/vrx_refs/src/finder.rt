@@ -100,9 +100,8 @@ impl Finder {
         ensures among { IfSome result (λ run. Contains runs.now run) }
     {
         for at in 0..runs.len() {
-            let run = runs[at];
-            if self.is_ready(&run, passed) {
-                return Some(run);
+            if self.is_ready(&runs[at], passed) {
+                return Some(runs[at]);
             }
         }
         None
