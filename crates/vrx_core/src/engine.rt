@@ -244,16 +244,15 @@ impl<C: Codec> Engine<C> {
         runs_are();
         runs_rise();
         let outcome = self.assembler.handle(moment, bytes)?;
-        let feedback = ask(
-            &self.assembler,
-            &mut self.requests,
-            &mut self.due.ask,
-            &outcome.arrival,
-        );
         Ok(Handled {
+            feedback: ask(
+                &self.assembler,
+                &mut self.requests,
+                &mut self.due.ask,
+                &outcome.arrival,
+            ),
             what: outcome.what,
             repaired: repaired_by(self.alloc, outcome.arrival),
-            feedback,
         })
     }
 

@@ -29,7 +29,65 @@ pub(crate) enum Replay {
     H264(Engine<H264>),
 }
 
-/// Puts the text of an engine's reply to an event after a text.
+/// Puts the text of an engine's reply to a datagram after a text.
+fn take_datagram<C: Codec>(
+    engine: &mut Engine<C>,
+    k: u32,
+    moment: u64,
+    bytes: &[u8],
+    text: &mut Vec<u8>,
+) -> Result<(), NoMemory>
+    requires room { engine.old.events < most_events }
+    ensures text { (h : List Event) → StandsFor C.meaning engine.old h →
+        OnOk result (text.new.items ≡ text.old.items ++ text_of k (reply engine.old.settings C.meaning h (Event.Datagram moment bytes.now))) }
+    ensures stands { (h : List Event) → StandsFor C.meaning engine.old h →
+        OnOk result (StandsFor C.meaning engine.new (Event.Datagram moment bytes.now ∷ h)) }
+    ensures settings { engine.new.settings ≡ engine.old.settings }
+    ensures counted { OnOk result (engine.new.events ≡ engine.old.events + 1) }
+{
+    let handled = engine.datagram(moment, bytes)?;
+    write_handled(text, k, &handled)
+}
+
+/// The same of a tick.
+fn take_tick<C: Codec>(
+    engine: &mut Engine<C>,
+    k: u32,
+    moment: u64,
+    text: &mut Vec<u8>,
+) -> Result<(), NoMemory>
+    requires room { engine.old.events < most_events }
+    ensures text { (h : List Event) → StandsFor C.meaning engine.old h →
+        OnOk result (text.new.items ≡ text.old.items ++ text_of k (reply engine.old.settings C.meaning h (Event.Tick moment))) }
+    ensures stands { (h : List Event) → StandsFor C.meaning engine.old h →
+        OnOk result (StandsFor C.meaning engine.new (Event.Tick moment ∷ h)) }
+    ensures settings { engine.new.settings ≡ engine.old.settings }
+    ensures counted { OnOk result (engine.new.events ≡ engine.old.events + 1) }
+{
+    let feedback = engine.tick(moment);
+    write_tick(text, k, &feedback)
+}
+
+/// The same of a pull.
+fn take_pull<C: Codec>(
+    engine: &mut Engine<C>,
+    k: u32,
+    moment: u64,
+    text: &mut Vec<u8>,
+) -> Result<(), NoMemory>
+    requires room { engine.old.events < most_events }
+    ensures text { (h : List Event) → StandsFor C.meaning engine.old h →
+        OnOk result (text.new.items ≡ text.old.items ++ text_of k (reply engine.old.settings C.meaning h (Event.Pull moment))) }
+    ensures stands { (h : List Event) → StandsFor C.meaning engine.old h →
+        OnOk result (StandsFor C.meaning engine.new (Event.Pull moment ∷ h)) }
+    ensures settings { engine.new.settings ≡ engine.old.settings }
+    ensures counted { OnOk result (engine.new.events ≡ engine.old.events + 1) }
+{
+    let pulled = engine.pull(moment)?;
+    write_pulled(text, k, &pulled)
+}
+
+/// The same of an event of whatever kind.
 fn reply_of<C: Codec>(
     engine: &mut Engine<C>,
     k: u32,
@@ -46,17 +104,10 @@ fn reply_of<C: Codec>(
 {
     match event {
         Event::Datagram { moment, bytes } => {
-            let handled = engine.datagram(*moment, bytes.as_slice())?;
-            write_handled(text, k, &handled)
+            take_datagram(engine, k, *moment, bytes.as_slice(), text)
         }
-        Event::Tick { moment } => {
-            let feedback = engine.tick(*moment);
-            write_tick(text, k, &feedback)
-        }
-        Event::Pull { moment } => {
-            let pulled = engine.pull(*moment)?;
-            write_pulled(text, k, &pulled)
-        }
+        Event::Tick { moment } => take_tick(engine, k, *moment, text),
+        Event::Pull { moment } => take_pull(engine, k, *moment, text),
     }
 }
 

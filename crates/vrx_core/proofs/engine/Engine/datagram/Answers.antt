@@ -19,13 +19,13 @@ use Rattle.vrx_core.proofs.step.EventLemmas.{datagram-refused, datagram-settings
 use Rattle.vrx_core.proofs.step.WantedLemmas.{datagram-reply, datagram-stands-for}
 use Rattle.vrx_core.proofs.engine.Engine.datagram.Goals as goal
 
-pub ask-feedback-requires-clause-below : goal.ask-feedback-requires-clause-below
-ask-feedback-requires-clause-below g c = let i = c.self.inside in
+pub ask-requires-clause-below : goal.ask-requires-clause-below
+ask-requires-clause-below g c = let i = c.self.inside in
     arrival-below g.C.Codec.meaning i.assembler c.handle.new.self i.requests c.args.moment c.args.bytes.now
     c.in_ok-outcome.outcome c.in_ok-outcome.ensures.handled c.in_ok-outcome.ensures.before c.self.invariant.fresh
 
-pub ask-feedback-requires-clause-short : goal.ask-feedback-requires-clause-short
-ask-feedback-requires-clause-short g c = let i = c.self.inside in
+pub ask-requires-clause-short : goal.ask-requires-clause-short
+ask-requires-clause-short g c = let i = c.self.inside in
     arrival-short g.C.Codec.meaning i.assembler c.handle.new.self i.requests c.args.moment c.args.bytes.now
     c.in_ok-outcome.outcome c.in_ok-outcome.ensures.handled c.in_ok-outcome.ensures.before c.self.invariant.fresh
 
@@ -34,7 +34,7 @@ invariant_of-self-2 g c =
     let i = c.self.inside in
     record {
       whole = c.in_ok-outcome.ensures.after;
-      fresh = subst (λ (w : Wanted). AreFresh c.handle.new.self.window w.asks) (sym c.ask-feedback.ensures.wanted)
+      fresh = subst (λ (w : Wanted). AreFresh c.handle.new.self.window w.asks) (sym c.ask.ensures.wanted)
           (arrival-fresh g.C.Codec.meaning i.assembler c.handle.new.self i.requests c.args.moment c.args.bytes.now
           c.in_ok-outcome.outcome c.in_ok-outcome.ensures.handled c.in_ok-outcome.ensures.before
           c.self.invariant.fresh
@@ -45,14 +45,14 @@ pub returns-clause-stands : goal.returns-clause-stands
 returns-clause-stands g c =
     let i = c.self.inside in
     subst (λ (p : EngineParts). (h : List Event) → StandsFor g.C.Codec.meaning p h →
-    StandsFor g.C.Codec.meaning (parts_of c.handle.new.self c.ask-feedback.new.requests)
+    StandsFor g.C.Codec.meaning (parts_of c.handle.new.self c.ask.new.requests)
     (Datagram c.args.moment c.args.bytes.now ∷ h)) c.self.view_is
     (λ h stands. subst (λ (w : Wanted).
     StandsFor g.C.Codec.meaning (parts_of c.handle.new.self w) (Datagram c.args.moment c.args.bytes.now ∷ h))
-    (sym c.ask-feedback.ensures.wanted)
+    (sym c.ask.ensures.wanted)
     (datagram-stands-for c.runs_are.ensures c.runs_rise.ensures g.C.Codec.meaning i.assembler c.handle.new.self
     i.requests c.args.moment c.args.bytes.now c.in_ok-outcome.outcome h c.in_ok-outcome.ensures.handled
-    c.in_ok-outcome.ensures.before c.in_ok-outcome.ensures.after c.ask-feedback.ensures.sound stands))
+    c.in_ok-outcome.ensures.before c.in_ok-outcome.ensures.after c.ask.ensures.sound stands))
 
 pub returns-clause-reply : goal.returns-clause-reply
 returns-clause-reply g c =
@@ -62,18 +62,18 @@ returns-clause-reply g c =
     ToDatagram (record {
       what = c.in_ok-outcome.outcome.what;
       repaired = c.repaired_by.result;
-      feedback = c.ask-feedback.result;
+      feedback = c.ask.result;
     })
     ≡ reply p.settings g.C.Codec.meaning h (Datagram c.args.moment c.args.bytes.now)) c.self.view_is
     (λ h stands.
     (λ j. ToDatagram (record {
       what = c.in_ok-outcome.outcome.what;
       repaired = c.repaired_by.result;
-      feedback = record { nack = c.ask-feedback.ensures.nack j; pli = c.ask-feedback.ensures.pli j };
+      feedback = record { nack = c.ask.ensures.nack j; pli = c.ask.ensures.pli j };
     }))
     ∙ datagram-reply c.runs_are.ensures c.runs_rise.ensures g.C.Codec.meaning i.assembler a i.requests c.args.moment
     c.args.bytes.now c.in_ok-outcome.outcome h c.in_ok-outcome.ensures.handled c.in_ok-outcome.ensures.before
-    c.in_ok-outcome.ensures.after c.ask-feedback.ensures.sound stands
+    c.in_ok-outcome.ensures.after c.ask.ensures.sound stands
     c.repaired_by.result c.repaired_by.ensures)
 
 pub returns-clause-settings : goal.returns-clause-settings
@@ -86,14 +86,14 @@ pub returns-clause-refused : goal.returns-clause-refused
 returns-clause-refused g c =
     let i = c.self.inside in
     subst (λ (p : EngineParts). IsErr (verdict p.settings g.C.Codec.meaning (contents_of p.window) c.args.bytes.now) →
-    (true ≡ true) × (parts_of c.handle.new.self c.ask-feedback.new.requests
+    (true ≡ true) × (parts_of c.handle.new.self c.ask.new.requests
     ≡ record p { events = p.events + 1; clock = max p.clock c.args.moment })) c.self.view_is
     (λ refused.
     let r = datagram-refused g.C.Codec.meaning i.assembler c.handle.new.self c.args.moment c.args.bytes.now
     c.in_ok-outcome.outcome c.in_ok-outcome.ensures.handled refused in (
       refl,
       ap (λ (w : Wanted). parts_of c.handle.new.self w)
-          (c.ask-feedback.ensures.wanted
+          (c.ask.ensures.wanted
           ∙ ap (λ o. wanted_with c.handle.new.self.clock c.handle.new.self.front
           (greatest_of (key_numbers c.handle.new.self.frames)) o i.requests) r.0)
           ∙ ap (λ (a : Assembly). parts_of a i.requests) r.1,
