@@ -15,4 +15,5 @@ pub mod HonestLinesLemmas
 pub mod EvidentLemmas
 pub mod EngineRows
 pub mod HonestRows
+pub mod HonestH264Rows
 pub mod Rows
