@@ -29,11 +29,11 @@ use Rattle.vrx_core.specs.declared.reply.What.TheVariants.{Dropped}
 use Rattle.vrx_core.specs.declared.reply.Reason.TheVariants.{NotRtp, Repeat}
 use Rattle.vrx_core.specs.declared.reply.Pulled.TheVariants.{NotReady, Frame}
 
-abbrev settings : Settings
+abbrev pub settings : Settings
 settings = record { media_ssrc = 10; media_type = 96; red = None; rtx = None; from_ssrc = 11; interval = 100 }
 
 -- no feedback is to be sent
-abbrev no_feedback : Feedback
+abbrev pub no_feedback : Feedback
 no_feedback = record { nack = None; pli = None }
 
 -- a PLI alone (RFC 4585 6.3.1)
@@ -49,7 +49,7 @@ asks_for_empty = record {
 }
 
 -- a reply to a datagram that repairs nothing and sends no feedback
-abbrev answered : What → Reply
+abbrev pub answered : What → Reply
 answered what = ToDatagram (record { what = what; repaired = []; feedback = no_feedback })
 
 -- a keyframe of two packets, of the sequence numbers 65535 and 0; a packet without a payload; and a frame of one packet
@@ -316,7 +316,7 @@ carry octets packet short small reads = record {
 }
 
 -- octets that carry a media packet are it, with padding or without
-media_form : (number frame part : ℕ) (carried : CarriedPart) (octets : List ℕ) →
+pub media_form : (number frame part : ℕ) (carried : CarriedPart) (octets : List ℕ) →
     read carried.text ≡ Some carried.packet → Carries octets carried.packet →
     IsWireForm settings number (Media frame part carried.text) octets
 media_form number frame part carried octets reads carries = (

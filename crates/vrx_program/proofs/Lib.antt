@@ -15,5 +15,6 @@ pub mod HonestLinesLemmas
 pub mod EvidentLemmas
 pub mod EngineRows
 pub mod HonestRows
+pub mod HonestH264Rows
 pub mod Rows
 pub mod WholeCallRows
