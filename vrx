@@ -15,7 +15,7 @@ if stale; then
     echo "vrx: the program isn't built, and the kit's command rt, which builds it, isn't on the PATH" >&2
     exit 127
   fi
-  echo "vrx: building the program (its first proof takes about eight minutes)" >&2
+  echo "vrx: building the program (its first proof takes about a quarter of an hour)" >&2
   # Settings alone are a call without events: the program has nothing to say to them, and ends with status 0.
   if ! printf 'vrx 1 codec=vp8 ssrc=00000001 pt=96 from=00000002\n' \
     | (cd "$top/crates/vrx_program" && rt run -- replay) >"$top/vrx.log" 2>&1; then
