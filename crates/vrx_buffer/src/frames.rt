@@ -138,6 +138,7 @@ fn lesser(best: Option<Run>, other: Option<Run>) -> Option<Run>
 }
 
 /// The first run, if it is ready. If it isn't, no run without layers is.
+#[inline(never)]
 fn first_if_ready(queue: &Queue, finder: &Finder, passed: Option<u64>) -> Option<Run>
     requires plain { list_all is_plain queue.now ≡ true }
     ensures ready { (told : List Sighting) (pulled : List Run) → Knows finder.now told pulled →

@@ -75,6 +75,7 @@ impl Queue {
     }
 
     /// The first run that is ready, with the numbers up to `passed` passed.
+    #[inline(never)]
     pub(crate) fn first_ready(&self, finder: &Finder, passed: Option<u64>) -> Option<Run>
         requires layers { have_layers self.now ≡ true }
         ensures ready { (told : List Sighting) (pulled : List Run) → Knows finder.now told pulled →

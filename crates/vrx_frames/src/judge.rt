@@ -76,6 +76,7 @@ fn octets_of<C: Codec>(window: &Window, first: u64, count: u64) -> Option<u32>
 }
 
 /// What is told of a span, if its parts join.
+#[inline(never)]
 pub(crate) fn judge<C: Codec>(window: &Window, span: Span) -> Option<Run>
     requires sound { AreSound C.meaning window.now.packets }
     requires upto { span.first ≤ span.last }

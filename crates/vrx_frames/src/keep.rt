@@ -33,6 +33,7 @@ pub(crate) fn held_shape(held: &Held) -> Shape
 }
 
 /// Remembers that a number stands after the end of a frame, if it was told and does.
+#[inline(always)]
 fn remember(ring: &mut Ring<Arrival>, n: u64)
     requires numbered { IsNumbered ring.old }
     ensures newest { ring.new.newest ≡ ring.old.newest }

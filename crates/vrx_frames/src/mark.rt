@@ -99,6 +99,7 @@ fn start_of(
 
 /// The frame that a number lies in, if the numbers told have the whole of it and it begins beyond the passed ones.
 /// The number's mark is spread from it.
+#[inline(always)]
 pub(crate) fn span_of(
     marks: &mut Ring<u64>,
     ring: &Ring<Arrival>,

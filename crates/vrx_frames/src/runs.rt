@@ -118,6 +118,7 @@ impl<C: Codec> Runs<C> {
 
 /// What is told of the run that a number lies in, if there is one beyond the passed numbers. The number's mark is
 /// spread from it.
+#[inline(always)]
 fn run_around<C: Codec>(
     window: &Window,
     ring: &Ring<Arrival>,
@@ -143,6 +144,7 @@ fn run_around<C: Codec>(
 }
 
 /// The same for the number after this one, if it begins newly.
+#[inline(always)]
 fn run_after<C: Codec>(
     window: &Window,
     ring: &Ring<Arrival>,

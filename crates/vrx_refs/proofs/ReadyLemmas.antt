@@ -11,6 +11,7 @@ use Rattle.vrx_codec.specs.declared.run.Place.{Place}
 use Rattle.vrx_codec.specs.declared.run.Run.{Run}
 use Rattle.vrx_refs.specs.declared.sight.Sight.{Sight}
 use Rattle.vrx_refs.specs.declared.sighting.Sighting.{Sighting}
+use Rattle.vrx_refs.specs.declared.limits.TheConstants.{REACH}
 use Rattle.vrx_refs.specs.declared.walk.Met.{Met}
 use Rattle.vrx_refs.specs.declared.walk.Step.{Step}
 use Rattle.vrx_refs.specs.declared.walk.Step.TheVariants.{Lost, Ended, On}
@@ -195,6 +196,36 @@ module _ (finder : Finder) (place : Place) (most p : ℕ) (met : Met) (on : Walk
       } where
         on_it : (are_met place.tid next || s.key) ≡ false
         on_it = grind (arith, common_steps, delta, some, met_after.left)
+
+-- a walk may wait at its first step already
+module _ (finder : Finder) (place : Place) where
+  abbrev nothing_met : Met
+  nothing_met = record { was = []; left = place.tid + 1 }
+
+  abbrev begins : WalksOn finder place REACH place.picture nothing_met
+  begins = record {
+    list = [];
+    is_met = record { flags = λ tid below. refl; left = omega arith };
+    goes_on = refl;
+    pulled = refl;
+    some = omega arith;
+  }
+
+  pub waits_at_none : place.picture ≡ 0 → are_pulled_at finder (walk_at finder place) ≡ false
+  waits_at_none none = ap (λ p. are_pulled_at finder
+      (walk (tid_at finder) (is_key_at finder) place.tid REACH p [])) none
+
+  pub waits_at_unseen : 0 < place.picture → sight_at finder (place.picture - 1) ≡ None
+      → are_pulled_at finder (walk_at finder place) ≡ false
+  waits_at_unseen below is = lost finder place REACH place.picture nothing_met begins (omega arith) below is
+
+  pub waits_at_seen : 0 < place.picture → (s : Sight) → sight_at finder (place.picture - 1) ≡ Some s
+      → nat_le s.tid place.tid ≡ true → s.pulled ≡ false → are_pulled_at finder (walk_at finder place) ≡ false
+  waits_at_seen below s is upto = waits_here finder place REACH place.picture nothing_met begins (omega arith) below s is
+      (by (nat_le s.tid place.tid) upto) where
+        by : (b : Bool) → b ≡ true → (b && true) ≡ true
+        by true is = refl
+        by false is = is
 
 -- the search for a run among runs, from a place on
 module _ (p : Run → Bool) (xs : List Run) (at : ℕ) where

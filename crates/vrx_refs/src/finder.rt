@@ -108,6 +108,7 @@ impl Finder {
     }
 
     /// Whether a run is ready, with the numbers up to `passed` passed. If it has layers, its TID is below 4.
+    #[inline(always)]
     pub fn is_ready(&self, run: &Run, passed: Option<u64>) -> bool
         requires layer { has_layer run.now.layers ≡ true }
         ensures ready { (told : List Sighting) (pulled : List Run) → Knows self.now told pulled →
@@ -117,6 +118,7 @@ impl Finder {
     }
 
     /// Whether a run is ready, by what is remembered.
+    #[inline(always)]
     fn is_run_ready(&self, run: &Run, passed: Option<u64>) -> bool
         requires layer { has_layer run.now.layers ≡ true }
         ensures ready { result ≡ is_run_ready self.now passed run.now }
@@ -132,6 +134,7 @@ impl Finder {
     }
 
     /// Whether a frame of this place is ready.
+    #[inline(always)]
     fn is_place_ready(&self, place: Place) -> bool
         requires layer { place.tid < LAYERS }
         ensures ready { result ≡ is_place_ready self.now place }
@@ -139,11 +142,28 @@ impl Finder {
     {
         match base_index(place) {
             Some(index) => self.has_base(place.picture, index),
-            None => self.is_walk_pulled(place),
+            None => !self.waits_at_once(place) && self.is_walk_pulled(place),
+        }
+    }
+
+    /// Whether the walk back from a frame ends at the picture before it already, which isn't seen, or counts and wasn't
+    /// pulled. Most frames that wait do so for that one.
+    #[inline(never)]
+    fn waits_at_once(&self, place: Place) -> bool
+        requires layer { place.tid < LAYERS }
+        ensures { result ≡ true → are_pulled_at self.now (walk_at self.now place) ≡ false }
+    {
+        if place.picture == 0 {
+            return true;
+        }
+        match self.sight(place.picture - 1) {
+            Some(sight) => sight.tid <= place.tid && !sight.pulled,
+            None => true,
         }
     }
 
     /// Whether the base of an index counts for a picture.
+    #[inline(always)]
     fn has_base(&self, picture: u64, index: u8) -> bool
         ensures { result ≡ is_base_ready picture (base_at self.now index) }
     {
@@ -154,6 +174,7 @@ impl Finder {
     }
 
     /// Whether each picture met on the walk back from a frame was pulled, if the walk comes to an end.
+    #[inline(never)]
     fn is_walk_pulled(&self, place: Place) -> bool
         requires layer { place.tid < LAYERS }
         ensures { result ≡ are_pulled_at self.now (walk_at self.now place) }
@@ -398,6 +419,7 @@ fn nothing<T: Drop>(alloc: Global, count: usize) -> Result<Vec<Option<T>>, NoMem
 }
 
 /// The index of the base to which a frame of this place refers, if it refers to nothing else.
+#[inline(always)]
 fn base_index(place: Place) -> Option<u8>
     ensures { result ≡ base_index place }
 {
@@ -411,6 +433,7 @@ fn base_index(place: Place) -> Option<u8>
 }
 
 /// Whether a base lies 1 to 255 pictures below a picture.
+#[inline(always)]
 fn counts(picture: u64, base: u64) -> bool
     ensures { result ≡ counts picture base }
 {

@@ -114,3 +114,12 @@ none-seen n k held window made here there = false_from_ne_true (is_fec_at (packe
       | inl both ↦ here both.0 both.1
       | inr fec ↦ true≢false (sym fec ∙ there)
     ])
+
+-- if no FEC packet comes from 0 on, there is none
+pub none-from : (k : ℕ) (es : List (ℕ × Held)) → is_sorted nat_cmp es ≡ true → is_some (next_fec 0 es) ≡ false →
+    is_fec_held (at k es) ≡ false
+none-from k es sorted none = false_from_ne_true (is_fec_held (at k es))
+    (λ fec. true≢false (sym (is_there (next_fec 0 es) (next-passed 0 k es sorted (omega arith) fec)) ∙ none)) where
+      is_there : (o : Option ℕ) → IsSomeAnd o (λ m. m ≤ k) → is_some o ≡ true
+      is_there None h = absurd h
+      is_there (Some m) h = refl

@@ -1,7 +1,7 @@
 -- A plan in the making.
 use Rattle.std.proofs.Common.{◌≡◌, ℕ, zero, suc, ◌+◌, ◌<◌, ◌≤◌, Bool, true, false, cond, max, List, [], ◌∷◌, ◌++◌, length, Option, Some, None, All, refl, sym, ◌∙◌, ap, subst, arith, inl, inr, nat_cmp, append_assoc, append-nil}
-use Rattle.std.specs.Prelude.{is_some}
-use Rattle.std.specs.Option.{option_map, option_map_or}
+use Rattle.std.specs.Prelude.{map, is_some}
+use Rattle.std.specs.Option.{option_map, option_map_or, option_or}
 use Rattle.std.specs.FinMap.Entries.{where_key}
 use Rattle.std.proofs.lemmas.Bool.{and_from, cases_Bool, cases_eq, le-leb, leb-false, lt-ltb, true≢false}
 use Rattle.std.proofs.lemmas.List.{map-append}
@@ -9,7 +9,7 @@ use Rattle.std.proofs.lemmas.List.Elements.{All-push}
 use Rattle.std.proofs.lemmas.Option.{none-some, same_Some}
 use Rattle.vrx_num.specs.declared.limits.TheConstants.{MOST_OCTETS, WINDOW}
 use Rattle.vrx_codec.specs.Meaning.{Meaning}
-use Rattle.vrx_window.specs.Content.{Content, Media, content_of}
+use Rattle.vrx_window.specs.Content.{Content, Media, content_of, is_fec, is_fec_held}
 use Rattle.vrx_window.specs.IsWindow.{IsWindow, IsWithin}
 use Rattle.vrx_window.specs.Sound.{AreSound, IsSound}
 use Rattle.vrx_window.specs.Window.{Contents, at, entries_with, in_window, is_available, is_dead, is_too_old, newest_with, would_of}
@@ -20,10 +20,12 @@ use Rattle.vrx_window.specs.declared.placing.Placing.TheVariants.{TooOld, Dead, 
 use Rattle.vrx_repair.specs.Plan.{SaysItsText, entries_of, entry_of, packets_seen, placed, repairs_in}
 use Rattle.vrx_repair.specs.Seen.{ArePackets, IsText}
 use Rattle.vrx_repair.specs.Source.{Source}
-use Rattle.vrx_repair.specs.Step.{Packets, first_step, repairs, with_repair, with_repairs}
+use Rattle.vrx_repair.specs.Step.{Packets, first_of, first_step, repairs, step, with_repair, with_repairs}
 use Rattle.vrx_repair.specs.declared.repair.Repair.{Repair}
 use Rattle.vrx_repair.proofs.ClosureLemmas.{step-within}
 use Rattle.vrx_repair.proofs.MapLemmas.{at_put-here, at_put-other, sorted-map, sorted-put, sorted-where}
+use Rattle.vrx_repair.proofs.NextLemmas.{none-seen}
+use Rattle.vrx_repair.proofs.StepLemmas.{step-not-fec}
 use Rattle.vrx_repair.proofs.SeenLemmas.{placed-here, placed-inside, placed-outside}
 use Rattle.vrx_repair.proofs.TextLemmas.{read-long}
 
@@ -223,3 +225,18 @@ module _ (source : Source) (n : ℕ) (held : Held) (window : Contents Held) wher
       sym (append-nil (entries_of made))
       ∙ ap (λ k. entries_of made ++ repairs source planned.newest planned.dead k (seen made)) (sym none)
       ∙ now.entries
+
+  -- without a FEC packet, neither in the window nor the one to be placed, nothing is rebuilt
+  pub planning-nothing : would_of window n ≡ Fresh → AreSound source.codec window.packets → IsSound source.codec held →
+      IsWindow window → is_fec held ≡ false → ((k : ℕ) → is_fec_held (at k window.packets) ≡ false) →
+      [] ≡ repairs_in source planned
+  planning-nothing fresh sound says is here there =
+      planning-ends [] WINDOW (first-none (map (λ entry. entry.0) (seen []))) (planning-begins WINDOW refl fresh sound says is) where
+        none : (k : ℕ) → step source planned.newest planned.dead (seen []) k ≡ None
+        none k = step-not-fec source planned.newest planned.dead (seen []) k
+            (none-seen n k held window [] (λ same fec. true≢false (sym fec ∙ here)) (there k))
+
+        first-none : (ns : List ℕ) → first_of (step source planned.newest planned.dead (seen [])) ns ≡ None
+        first-none [] = refl
+        first-none (k ∷ ns) = ap (λ o. option_or o (first_of (step source planned.newest planned.dead (seen [])) ns)) (none k)
+            ∙ first-none ns

@@ -75,6 +75,7 @@ fn place_repair(window: &mut Window, pictures: &mut Pictures, repair: Repair)
 }
 
 /// Places repairs in their order.
+#[inline(never)]
 pub(crate) fn place_repairs(window: &mut Window, pictures: &mut Pictures, repairs: Vec<Repair>)
     requires placeable { ArePlaceable (contents_of window.old) (entries_of repairs.items) }
     requires fits { All (λ repair. IfSome repair.layers FitsLayers) repairs.items }

@@ -49,6 +49,7 @@ impl Plan {
     /// be refused.
     ///
     /// The window is the one that was planned for, unchanged. The packet's own picture was taken already.
+    #[inline(always)]
     pub fn commit(self, window: &mut Window, pictures: &mut Pictures, n: u64, held: Held) -> Numbers
         requires planned { IsPlanned n held window.old self }
         requires newest { IfSome pictures.old (λ newest. newest ≤ 2 ^ 61) }

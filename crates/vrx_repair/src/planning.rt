@@ -1,8 +1,9 @@
 //! Makes the plan of what a packet rebuilds.
 
-ghost use Rattle.std.specs.Prelude.{◌≡◌, All, IfOk};
+ghost use Rattle.std.specs.Prelude.{◌≡◌, ℕ, false, All, IfOk};
+ghost use Rattle.vrx_window.specs.Content.{is_fec, is_fec_held};
 ghost use Rattle.vrx_window.specs.Sound.{AreSound, IsSound};
-ghost use Rattle.vrx_window.specs.Window.{would_of};
+ghost use Rattle.vrx_window.specs.Window.{at, would_of};
 ghost use Rattle.vrx_window.specs.declared.placing.Placing.TheVariants.{Fresh};
 ghost use Rattle.vrx_repair.specs.Plan.{IsPlan, SaysItsText, entries_of, numbers_of, placed, repairs_in};
 ghost use Rattle.vrx_repair.specs.Source.{source_of};
@@ -18,8 +19,19 @@ use vrx_num::limits::WINDOW;
 use vrx_num::{NoMemory, Numbers};
 use vrx_window::{Held, Window};
 
+/// Whether a FEC packet is held in the window, or is the one to be placed. Without one nothing is rebuilt.
+fn is_fec_there(window: &Window, held: &Held) -> bool
+    ensures placed { result ≡ false → is_fec held.now ≡ false }
+    ensures held { result ≡ false → (k : ℕ) → is_fec_held (at k window.now.packets) ≡ false }
+{
+    // Called for its contract: what always holds of a window.
+    let _newest = window.newest();
+    held.is_fec() || window.next_fec(0).is_some()
+}
+
 /// The plan of a packet whose number is fresh. It changes nothing, and takes all the memory that [`Plan::commit`]
 /// needs.
+#[inline(always)]
 pub fn plan<C: Codec>(
     alloc: Global,
     window: &Window,
@@ -33,12 +45,21 @@ pub fn plan<C: Codec>(
     ensures plan { let source = source_of C.meaning reading.now.media_ssrc reading.now.media_type in
         IfOk result (λ plan. IsPlan source n held.now window.now plan) }
 {
+    // Called for its contract: what always holds of a window.
+    let _newest = window.newest();
+    if !is_fec_there(window, held) {
+        return Ok(Plan {
+            repairs: Vec::new(alloc),
+            numbers: Numbers::new(alloc),
+        });
+    }
     let repairs = repairs_of::<C>(alloc, window, n, held, reading)?;
     let numbers = numbers_of(alloc, repairs.as_slice())?;
     Ok(Plan { repairs, numbers })
 }
 
 /// The repairs: step after step, always that of the least number, until none is left.
+#[inline(never)]
 fn repairs_of<C: Codec>(
     alloc: Global,
     window: &Window,
