@@ -28,7 +28,7 @@ use Rattle.vrx_core.specs.declared.event.Event.TheVariants.{Datagram, Pull}
 use Rattle.vrx_core.specs.declared.reply.What.{What}
 use Rattle.vrx_core.specs.declared.reply.What.TheVariants as what
 use Rattle.vrx_core.specs.declared.reply.Pulled.TheVariants.{Frame}
-use Rattle.vrx_core.proofs.machine.MemberLemmas.{Contains-either, Contains-empty}
+use Rattle.vrx_rows.proofs.MemberLemmas.{Contains-either, Contains-empty}
 
 -- a codec whose payloads leave open where a frame begins: a payload is the part's body, one with an octet 5 says a
 -- keyframe, and parts join to their bodies

@@ -34,8 +34,8 @@ use Rattle.vrx_core.specs.declared.event.Event.TheVariants.{Datagram, Pull}
 use Rattle.vrx_core.specs.declared.reply.What.{What}
 use Rattle.vrx_core.specs.declared.reply.What.TheVariants as what
 use Rattle.vrx_core.specs.declared.reply.Pulled.TheVariants.{Frame, NotReady}
-use Rattle.vrx_core.proofs.machine.MemberLemmas.{Contains-either, Contains-empty}
-use Rattle.vrx_core.proofs.honest.NeighbourRows.{are_octets, carry}
+use Rattle.vrx_rows.proofs.MemberLemmas.{Contains-either, Contains-empty}
+use Rattle.vrx_rows.proofs.NeighbourRows.{are_octets, carry}
 
 -- a payload: 5 for a keyframe, the two octets of the picture, the index, the TID, 1 if Y is 1, and the part's body. It
 -- begins its frame

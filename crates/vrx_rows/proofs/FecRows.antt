@@ -28,8 +28,8 @@ use Rattle.vrx_core.specs.declared.reply.What.{What}
 use Rattle.vrx_core.specs.declared.reply.What.TheVariants as what
 use Rattle.vrx_core.specs.declared.reply.Reason.TheVariants.{Repeat}
 use Rattle.vrx_core.specs.declared.reply.Pulled.TheVariants.{Frame}
-use Rattle.vrx_core.proofs.machine.MemberLemmas.{Contains-either, Contains-empty}
-use Rattle.vrx_core.proofs.honest.NeighbourRows.{are_octets, carry}
+use Rattle.vrx_rows.proofs.MemberLemmas.{Contains-either, Contains-empty}
+use Rattle.vrx_rows.proofs.NeighbourRows.{are_octets, carry}
 
 -- a codec whose payloads say with an octet 7 that a frame begins, and with an octet 5 a keyframe; a payload is the
 -- part's body, and parts join to their bodies

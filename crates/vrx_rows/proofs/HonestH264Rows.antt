@@ -1,7 +1,7 @@
 -- An honest sender of H.264 and an honest network, worked by hand: the premises of the law can be met by the codec
 -- whose packets mostly leave it to the packet before whether a frame begins. It sends a keyframe as one aggregate, a
 -- frame as two fragments, an empty packet, and a frame as one unit.
-use Rattle.std.proofs.Common.{◌≢◌, ◌≤◌, ◌<◌, ◌≡◌, ◌∙◌, ◌⊎◌, sym, inl, inr, Contains, All, ℕ, zero, suc, ◌+◌, true, false, List, [], ◌∷◌, ◌++◌, codes, length, None, Some, IfSome, IsSomeAnd, slice_get, refl, arith}
+use Rattle.std.proofs.Common.{◌≢◌, ◌≤◌, ◌<◌, ◌≡◌, ◌∙◌, ◌⊎◌, sym, ap, inl, inr, Contains, All, ℕ, zero, suc, ◌+◌, true, false, List, [], ◌∷◌, length, None, Some, IfSome, IsSomeAnd, slice_get, refl, arith}
 use Rattle.std.specs.List.{AllByRecursion}
 use Rattle.std.proofs.lemmas.List.Elements.{All-nil, All-contains, All-from_recursion}
 use Rattle.vrx_rtp.specs.Packet.{Packet}
@@ -16,6 +16,7 @@ use Rattle.vrx_core.specs.honest.Sender.{SentFrame, Media, Fec, Empty, Sender, I
 use Rattle.vrx_core.specs.honest.WireForm.{Plain, IsWireForm}
 use Rattle.vrx_core.specs.honest.Layers.{HaveNoLayers}
 use Rattle.vrx_core.specs.honest.Chain.{InChain}
+use Rattle.vrx_core.specs.honest.HonestCall.{frames_of}
 use Rattle.vrx_core.specs.honest.HonestSender.{CarriedPart, IsPart, IsTrueFec, Travels, HonestSender}
 use Rattle.vrx_core.specs.honest.HonestNetwork.{Origin, FromSender, Elsewhere, HonestNetwork, packets_taken}
 use Rattle.vrx_core.specs.declared.event.Event.{Event}
@@ -25,14 +26,11 @@ use Rattle.vrx_core.specs.declared.reply.What.TheVariants as what
 use Rattle.vrx_core.specs.declared.reply.What.TheVariants.{Dropped}
 use Rattle.vrx_core.specs.declared.reply.Reason.TheVariants.{Repeat}
 use Rattle.vrx_core.specs.declared.reply.Pulled.TheVariants.{NotReady, Frame}
-use Rattle.vrx_text.specs.Transcript.{line_feed}
-use Rattle.vrx_text.proofs.OnLiterals.{text_on_literals}
-use Rattle.vrx_program.specs.Replay.{settings_of}
-use Rattle.vrx_program.specs.HonestLines.{IsHonestCapture}
-use Rattle.vrx_program.proofs.HonestRows.{settings, answered, are_octets, carry, media_form}
+use Rattle.vrx_rows.proofs.MemberLemmas.{not_empty}
+use Rattle.vrx_rows.proofs.HonestRows.{settings, answered, are_octets, carry, media_form}
 
 -- the settings of the rows of VP8 have no fault
-no_fault : fault_of settings ≡ None
+pub no_fault : fault_of settings ≡ None
 no_fault = refl
 
 -- a STAP-A of a sequence parameter set, a picture parameter set and an IDR slice (RFC 6184 5.7.1); two FU-A of
@@ -84,7 +82,7 @@ second_frame = record { bytes = second_bytes; key = false; ts = 9; layers = None
 abbrev third_frame : SentFrame
 third_frame = record { bytes = third_bytes; key = false; ts = 18; layers = None; references = 1 ∷ [] }
 
-abbrev sender : Sender
+abbrev pub sender : Sender
 sender = record {
   first_wire = 7;
   frames = first_frame ∷ second_frame ∷ third_frame ∷ [];
@@ -399,14 +397,14 @@ empty_plain = (
 
 -- the aggregate; the second fragment, the same again, and the first; two pulls; the last frame's packet, and a pull;
 -- the empty packet, and two pulls
-abbrev events : List Event
+abbrev pub events : List Event
 events =
     Datagram 0 first_text ∷ Datagram 1 third_text ∷ Datagram 2 third_text ∷ Datagram 3 second_text
     ∷ Pull 4 ∷ Pull 5
     ∷ Datagram 6 fourth_text ∷ Pull 7
     ∷ Datagram 8 empty_octets ∷ Pull 9 ∷ Pull 10 ∷ []
 
-abbrev origins : List Origin
+abbrev pub origins : List Origin
 origins =
     FromSender 0 ∷ FromSender 2 ∷ FromSender 2 ∷ FromSender 1
     ∷ Elsewhere ∷ Elsewhere
@@ -460,8 +458,8 @@ asking what low = ToDatagram (record { what = what; repaired = []; feedback = as
 -- The second fragment asks for the first, and is a repeat when it comes again. The first fragment begins its frame,
 -- since the keyframe ends right before it: both frames go out, the keyframe first. The last packet asks for the empty
 -- one, and begins its frame only once that came and is passed over.
-pub frames_pulled : replies settings h264 [] events
-    ≡ answered (what.Media 65543)
+abbrev answers : List Reply
+answers = answered (what.Media 65543)
     ∷ asking (what.Media 65545) 8
     ∷ answered (Dropped Repeat)
     ∷ answered (what.Media 65544)
@@ -473,25 +471,10 @@ pub frames_pulled : replies settings h264 [] events
     ∷ ToPull (Frame (record { first = 65547; last = 65547; ts = 18; key = false; bytes = third_bytes }))
     ∷ ToPull NotReady
     ∷ []
+
+pub frames_pulled : replies settings h264 [] events ≡ answers
 unfolding replies reply snapshots repairs_in units_of
 frames_pulled = refl
 
--- a capture of the call: its settings, and each event as a line
-abbrev capture : List ℕ
-capture = codes "vrx 1 codec=h264 ssrc=0000000a pt=96 from=0000000b" ++ line_feed
-    ++ codes "d 0 80e00007000000000000000a7800026742000268ce000265b1" ++ line_feed
-    ++ codes "d 1 80e00009000000090000000a7c41b3" ++ line_feed
-    ++ codes "d 2 80e00009000000090000000a7c41b3" ++ line_feed
-    ++ codes "d 3 80600008000000090000000a7c81b2" ++ line_feed
-    ++ codes "p 4" ++ line_feed
-    ++ codes "p 5" ++ line_feed
-    ++ codes "d 6 80e0000b000000120000000a61b4" ++ line_feed
-    ++ codes "p 7" ++ line_feed
-    ++ codes "d 8 a060000a000000090000000a01" ++ line_feed
-    ++ codes "p 9" ++ line_feed
-    ++ codes "p 10" ++ line_feed
-
--- it is honest: the condition of the law of the program can be met
-pub capture-honest : IsHonestCapture capture sender origins
-unfolding text_on_literals settings_of
-capture-honest = (sender-honest, network-honest)
+pub some_pulled : frames_of (replies settings h264 [] events) ≢ []
+some_pulled none = not_empty _ _ (ap frames_of (sym frames_pulled) ∙ none)

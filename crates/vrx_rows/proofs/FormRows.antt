@@ -16,7 +16,7 @@ use Rattle.vrx_core.specs.declared.reply.What.TheVariants as what
 use Rattle.vrx_core.specs.declared.reply.What.TheVariants.{Dropped}
 use Rattle.vrx_core.specs.declared.reply.Reason.TheVariants.{Repeat}
 use Rattle.vrx_core.specs.declared.reply.Pulled.TheVariants.{Frame}
-use Rattle.vrx_core.proofs.honest.NeighbourRows.{codec, settings, sender, first_text, second_text, third_text, fourth_text, first_part, second_part, third_part, fourth_part, empty_packet, carry, plain_form}
+use Rattle.vrx_rows.proofs.NeighbourRows.{codec, settings, sender, first_text, second_text, third_text, fourth_text, first_part, second_part, third_part, fourth_part, empty_packet, carry, plain_form}
 
 -- the first packet in RED: type 97, and the block of type 96
 abbrev first_red : List ℕ

@@ -4,8 +4,8 @@
 -- order or twice, and some in RED, sent again, or in RED and sent again. The packet that is lost is repaired. Another
 -- one comes only after it was asked for ten times and given up, which brings a request for a keyframe; and the last
 -- frame, which doesn't refer to it, is given.
-use Rattle.std.proofs.Common.{append-nil, codes, ◌++◌, ◌≢◌, ◌≤◌, ◌<◌, ◌≡◌, ◌∙◌, ◌⊎◌, ap, inl, inr, Contains, All, ℕ, zero, suc, ◌+◌, Bool, true, false, if◌then◌else◌, List, [], ◌∷◌, length, Some, None, Ok, Result, IfSome, IsSomeAnd, slice_get, refl, subst, sym, arith}
-use Rattle.std.specs.Prelude.{drop, nat_le, nat_lt, ◌==◌, IsErr, IsOkAnd}
+use Rattle.std.proofs.Common.{append-nil, ◌≢◌, ◌≤◌, ◌<◌, ◌≡◌, ◌∙◌, ◌⊎◌, ap, inl, inr, Contains, All, ℕ, zero, suc, ◌+◌, Bool, true, false, if◌then◌else◌, List, [], ◌∷◌, length, Some, None, Ok, IfSome, IsSomeAnd, slice_get, refl, subst, sym, arith}
+use Rattle.std.specs.Prelude.{drop, nat_le, nat_lt, ◌==◌, IsErr}
 use Rattle.std.specs.List.{list_all}
 use Rattle.std.specs.Option.{option_map}
 use Rattle.std.proofs.lemmas.Bool.{leb-true}
@@ -37,6 +37,7 @@ use Rattle.vrx_core.specs.honest.WireForm.{Plain, Carries, InRed, Again, RedAgai
 use Rattle.vrx_core.specs.honest.Layers.{HasTid, IsKey, IsLastOf, IsLastSinceKey, KeepsLayers, layers_at}
 use Rattle.vrx_core.specs.honest.Chain.{InChain}
 use Rattle.vrx_core.specs.honest.Number.{IsOfFrame}
+use Rattle.vrx_core.specs.honest.HonestCall.{frames_of}
 use Rattle.vrx_core.specs.honest.HonestSender.{CarriedPart, HasText, IsPart, IsTrueFec, Travels, HonestSender}
 use Rattle.vrx_core.specs.honest.HonestNetwork.{Origin, FromSender, Elsewhere, AreNearTold, HonestNetwork, IsDelivery, IsNear, IsNewestTold, greatest, packets_taken, takes}
 use Rattle.vrx_core.specs.declared.settings.Settings.{Settings}
@@ -46,16 +47,11 @@ use Rattle.vrx_core.specs.declared.reply.What.{What}
 use Rattle.vrx_core.specs.declared.reply.What.TheVariants as what
 use Rattle.vrx_core.specs.declared.reply.Reason.TheVariants.{Dead, Repeat}
 use Rattle.vrx_core.specs.declared.reply.Pulled.TheVariants.{Frame, NotReady}
-use Rattle.vrx_capture.specs.declared.settings_line.CodecName.TheVariants.{Vp8}
-use Rattle.vrx_text.specs.Transcript.{line_feed}
-use Rattle.vrx_text.specs.declared.transcript.ErrorReason.{ErrorReason}
-use Rattle.vrx_text.proofs.OnLiterals.{text_on_literals}
-use Rattle.vrx_program.specs.Replay.{Call, call_of, meaning_of, settings_of}
-use Rattle.vrx_program.specs.HonestLines.{IsHonestCapture, events_of}
-use Rattle.vrx_program.proofs.HonestRows.{are_octets, carry, only_one}
+use Rattle.vrx_rows.proofs.MemberLemmas.{not_empty}
+use Rattle.vrx_rows.proofs.HonestRows.{are_octets, carry, only_one}
 
 -- media and FEC may come in RED, and media and RED may be sent again
-abbrev settings : Settings
+abbrev pub settings : Settings
 settings = record {
   media_ssrc = 10;
   media_type = 96;
@@ -156,7 +152,7 @@ fifth_frame = record {
   references = 0 ∷ [];
 }
 
-abbrev sender : Sender
+abbrev pub sender : Sender
 sender = record {
   first_wire = 65534;
   frames = first_frame ∷ second_frame ∷ third_frame ∷ fourth_frame ∷ fifth_frame ∷ [];
@@ -636,14 +632,14 @@ report = 128 ∷ 201 ∷ 0 ∷ 1 ∷ 0 ∷ 0 ∷ 0 ∷ 9 ∷ []
 
 -- what comes, and the pulls: packets 0 and 3, 2 sent again, so that 1 is repaired, 2 as it is; three pulls; 6, 4, and
 -- RTCP; then ten ticks, each an interval after the one before; and 5
-abbrev events : List Event
+abbrev pub events : List Event
 events =
     Datagram 0 first_red ∷ Pull 1 ∷ Datagram 2 fec_octets ∷ Datagram 3 third_rtx ∷ Datagram 4 third_text
     ∷ Pull 5 ∷ Pull 6 ∷ Pull 7 ∷ Datagram 8 fifth_red_rtx ∷ Datagram 9 empty_red_rtx ∷ Datagram 10 report
     ∷ Tick 108 ∷ Tick 208 ∷ Tick 308 ∷ Tick 408 ∷ Tick 508 ∷ Tick 608 ∷ Tick 708 ∷ Tick 808 ∷ Tick 908 ∷ Tick 1008
     ∷ Datagram 1009 fourth_text ∷ Pull 1010 ∷ Pull 1011 ∷ []
 
-abbrev origins : List Origin
+abbrev pub origins : List Origin
 origins =
     FromSender 0 ∷ Elsewhere ∷ FromSender 3 ∷ FromSender 2 ∷ FromSender 2
     ∷ Elsewhere ∷ Elsewhere ∷ Elsewhere ∷ FromSender 6 ∷ FromSender 4 ∷ Elsewhere
@@ -869,41 +865,5 @@ pub frames_pulled : replies settings vp8 [] events ≡ answers
 unfolding snapshots
 frames_pulled = carried_along [] events ∙ evaluated
 
--- ---- the program
-
--- the capture of this call
-abbrev capture : List ℕ
-capture =
-    codes "vrx 1 codec=vp8 ssrc=0000000a pt=96 red=100 fec=101"
-    ++ codes " rtxssrc=0000000c rtx=97 rtxred=98 from=0000000b" ++ line_feed
-    ++ codes "d 0 80e4fffe000000000000000a6090e0ffff050000aa" ++ line_feed ++ codes "p 1" ++ line_feed
-    ++ codes "d 2 80640001000000050000000a650000ffff0000001b00010009c0000000000100c0007707" ++ line_feed
-    ++ codes "d 3 80e10007000000120000000c000090e08001056001cc" ++ line_feed
-    ++ codes "d 4 80e00000000000120000000a90e08001056001cc" ++ line_feed ++ codes "p 5" ++ line_feed
-    ++ codes "p 6" ++ line_feed ++ codes "p 7" ++ line_feed
-    ++ codes "d 8 a0e20008000000240000000c00046090e08003060001ee0002" ++ line_feed
-    ++ codes "d 9 80620009000000050000000c0002" ++ line_feed ++ codes "d 10 80c9000100000009" ++ line_feed
-    ++ codes "t 108" ++ line_feed ++ codes "t 208" ++ line_feed ++ codes "t 308" ++ line_feed
-    ++ codes "t 408" ++ line_feed ++ codes "t 508" ++ line_feed ++ codes "t 608" ++ line_feed
-    ++ codes "t 708" ++ line_feed ++ codes "t 808" ++ line_feed ++ codes "t 908" ++ line_feed
-    ++ codes "t 1008" ++ line_feed ++ codes "d 1009 80e000030000001b0000000a90e08002058001dd" ++ line_feed
-    ++ codes "p 1010" ++ line_feed ++ codes "p 1011" ++ line_feed
-
--- its events stand on the lines from 2 on
-abbrev numbered : ℕ → List Event → List (ℕ × Event)
-numbered k [] = []
-numbered k (e ∷ es) = (k, e) ∷ numbered (k + 1) es
-
-abbrev call : Call
-call = record { codec = Vp8; settings = settings; events = numbered 2 events; bad = None }
-
-capture_reads : call_of capture ≡ Ok call
-unfolding text_on_literals settings_of
-capture_reads = refl
-
--- so the condition of the program's law is met
-pub capture-honest : IsHonestCapture capture sender origins
-capture-honest = subst (λ (read : Result Call ErrorReason). IsOkAnd read (λ told.
-    HonestSender told.settings (meaning_of told.codec) sender
-    × HonestNetwork told.settings (meaning_of told.codec) sender [] [] (events_of told) origins))
-    (sym capture_reads) (sender-honest, network-honest)
+pub some_pulled : frames_of (replies settings vp8 [] events) ≢ []
+some_pulled none = not_empty _ _ (ap frames_of (sym frames_pulled) ∙ none)

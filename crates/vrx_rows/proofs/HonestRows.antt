@@ -37,11 +37,11 @@ abbrev pub no_feedback : Feedback
 no_feedback = record { nack = None; pli = None }
 
 -- a PLI alone (RFC 4585 6.3.1)
-abbrev asks_for_key : Feedback
+abbrev pub asks_for_key : Feedback
 asks_for_key = record { nack = None; pli = Some (129 ∷ 206 ∷ 0 ∷ 2 ∷ 0 ∷ 0 ∷ 0 ∷ 11 ∷ 0 ∷ 0 ∷ 0 ∷ 10 ∷ []) }
 
 -- a NACK of the number 65,537 alone, whose lowest 16 bits are 1 (RFC 4585 6.2.1)
-abbrev asks_for_empty : Feedback
+abbrev pub asks_for_empty : Feedback
 asks_for_empty = record {
   nack = Some (record { items = 129 ∷ 205 ∷ 0 ∷ 3 ∷ 0 ∷ 0 ∷ 0 ∷ 11 ∷ 0 ∷ 0 ∷ 0 ∷ 10 ∷ 0 ∷ 1 ∷ 0 ∷ 0 ∷ [] });
   pli =
@@ -54,13 +54,13 @@ answered what = ToDatagram (record { what = what; repaired = []; feedback = no_f
 
 -- a keyframe of two packets, of the sequence numbers 65535 and 0; a packet without a payload; and a frame of one packet
 -- that refers to the keyframe
-abbrev first_text : List ℕ
+abbrev pub first_text : List ℕ
 first_text = 128 ∷ 96 ∷ 255 ∷ 255 ∷ 0 ∷ 0 ∷ 0 ∷ 0 ∷ 0 ∷ 0 ∷ 0 ∷ 10 ∷ 16 ∷ 0 ∷ 170 ∷ []
 
-abbrev second_text : List ℕ
+abbrev pub second_text : List ℕ
 second_text = 128 ∷ 224 ∷ 0 ∷ 0 ∷ 0 ∷ 0 ∷ 0 ∷ 0 ∷ 0 ∷ 0 ∷ 0 ∷ 10 ∷ 0 ∷ 187 ∷ []
 
-abbrev third_text : List ℕ
+abbrev pub third_text : List ℕ
 third_text = 128 ∷ 224 ∷ 0 ∷ 2 ∷ 0 ∷ 0 ∷ 0 ∷ 9 ∷ 0 ∷ 0 ∷ 0 ∷ 10 ∷ 16 ∷ 1 ∷ 204 ∷ []
 
 abbrev first_frame : SentFrame
@@ -69,7 +69,7 @@ first_frame = record { bytes = 0 ∷ 170 ∷ 187 ∷ []; key = true; ts = 0; lay
 abbrev second_frame : SentFrame
 second_frame = record { bytes = 1 ∷ 204 ∷ []; key = false; ts = 9; layers = None; references = 0 ∷ [] }
 
-abbrev sender : Sender
+abbrev pub sender : Sender
 sender = record {
   first_wire = 65535;
   frames = first_frame ∷ second_frame ∷ [];
@@ -325,13 +325,13 @@ media_form number frame part carried octets reads carries = (
   record { how = Plain; wire = carried.packet; travels = refl; carries = carries },
 )
 
-first_plain : IsWireForm settings 65535 (Media 0 0 first_text) first_text
+pub first_plain : IsWireForm settings 65535 (Media 0 0 first_text) first_text
 first_plain = media_form 65535 0 0 first_part first_text refl (carry first_text first_part.packet refl refl refl)
 
-second_plain : IsWireForm settings 0 (Media 0 1 second_text) second_text
+pub second_plain : IsWireForm settings 0 (Media 0 1 second_text) second_text
 second_plain = media_form 0 0 1 second_part second_text refl (carry second_text second_part.packet refl refl refl)
 
-third_plain : IsWireForm settings 2 (Media 1 0 third_text) third_text
+pub third_plain : IsWireForm settings 2 (Media 1 0 third_text) third_text
 third_plain = media_form 2 1 0 third_part third_text refl (carry third_text third_part.packet refl refl refl)
 
 -- the third packet with padding of three octets
@@ -356,7 +356,7 @@ empty_packet = record {
   padding = 0;
 }
 
-abbrev empty_padded : List ℕ
+abbrev pub empty_padded : List ℕ
 empty_padded = 160 ∷ 96 ∷ 0 ∷ 1 ∷ 0 ∷ 0 ∷ 0 ∷ 5 ∷ 0 ∷ 0 ∷ 0 ∷ 10 ∷ 0 ∷ 0 ∷ 0 ∷ 4 ∷ []
 
 empty_with_padding : IsWireForm settings 1 Empty empty_padded
