@@ -34,8 +34,3 @@ pub mod ShiftLemmas
 pub mod SightLemmas
 pub mod JudgeLemmas
 pub mod HonestRunsLemmas
-pub mod NeighbourRows
-pub mod FormRows
-pub mod LossRows
-pub mod FecRows
-pub mod LayerRows

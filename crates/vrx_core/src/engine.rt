@@ -14,11 +14,11 @@ ghost use Rattle.vrx_buffer.specs.Order.{greatest_of};
 ghost use Rattle.vrx_core.specs.inside.Wants.{AreBelow, AreNear, asked_with, key_with, repaired_with, wanted_with};
 ghost use Rattle.vrx_asks.specs.IsAsks.{IsAsks};
 ghost use Rattle.vrx_core.specs.declared.event.Event.{Event};
-ghost use Rattle.vrx_core.specs.declared.reply.What.{What};
+ghost use Rattle.vrx_core.specs.declared.reply.What.{What as WhatOf};
 
 use crate::assembler::{Arrival, Assembler};
 use crate::meanings::{answers_are, reasons_mean};
-use crate::reply::{Handled, Pulled};
+use crate::reply::{Handled, Pulled, What};
 use crate::requests::Requests;
 use crate::settings::{NewFault, Settings};
 use crate::settings_fault::fault_of as first_fault;
@@ -32,23 +32,18 @@ use vrx_num::limits::MOST_EVENTS;
 use vrx_num::{NoMemory, Numbers};
 use vrx_rtcp::{Feedback, nack_of, pli};
 
-/// No feedback.
-const NO_FEEDBACK: Feedback = Feedback {
-    nack: None,
-    pli: None,
-};
-
 /// The receiver of one stream.
 ///
 /// Its codec reads the payloads and joins the parts of a frame. It keeps no history. Contracts see its parts, and say
 /// for every history for which it stands that it stands for the history with the event, and that the reply is the
-/// machine's. What the last event asked for and gave up stays in `due`, whose room the next one uses again.
+/// machine's. What the last event asked for and gave up stays in `due`, whose room the next one uses again; it is boxed,
+/// so that an engine that moves doesn't move it.
 #[derive(Drop)]
 pub struct Engine<C: Codec> {
     alloc: Global,
     assembler: Assembler<C>,
     requests: Requests,
-    due: Due,
+    due: Box<Due>,
 }
 
 impl<C: Codec> Model for Engine<C> {
@@ -60,6 +55,18 @@ impl<C: Codec> Model for Engine<C> {
     ghost view = { λ a. parts_of a.assembler a.requests };
 
     ghost invariant = { λ a. IsSound C.meaning a.assembler a.requests };
+}
+
+/// The room for what is due, with nothing in it.
+fn nothing_due(alloc: Global) -> Result<Box<Due>, NoMemory> {
+    let due = Box::new(
+        alloc,
+        Due {
+            ask: ArrayVec::new(),
+            give_up: ArrayVec::new(),
+        },
+    )?;
+    Ok(due)
 }
 
 /// The NACK of these numbers, unless there is none.
@@ -86,7 +93,7 @@ fn pli_if(settings: &Settings, key: bool) -> Option<[u8; 12]>
 }
 
 /// The feedback that asks for these numbers, and for a keyframe or not.
-fn asking(settings: &Settings, numbers: &[u64], key: bool) -> Feedback
+fn feedback_of(settings: &Settings, numbers: &[u64], key: bool) -> Feedback
     requires near { AreNear numbers.now }
     ensures nack { result.nack ≡ nack_for settings.now numbers.now }
     ensures pli { result.pli ≡ pli_for settings.now key }
@@ -97,41 +104,56 @@ fn asking(settings: &Settings, numbers: &[u64], key: bool) -> Feedback
     }
 }
 
-/// The same. If there is nothing to ask for, no octets are laid out.
-fn feedback_of(settings: &Settings, numbers: &[u64], key: bool) -> Feedback
+/// Makes feedback that asks for nothing ask for these numbers, and for a keyframe or not. It has room for 496 octets, so
+/// that it is changed where it stands, and only if there is something to ask for.
+fn ask_for(feedback: &mut Feedback, settings: &Settings, numbers: &[u64], key: bool)
     requires near { AreNear numbers.now }
-    ensures nack { result.nack ≡ nack_for settings.now numbers.now }
-    ensures pli { result.pli ≡ pli_for settings.now key }
+    requires nothing { (feedback.old.nack ≡ None) × (feedback.old.pli ≡ None) }
+    ensures nack { feedback.new.nack ≡ nack_for settings.now numbers.now }
+    ensures pli { feedback.new.pli ≡ pli_for settings.now key }
 {
     if numbers.len() == 0 && !key {
-        NO_FEEDBACK
-    } else {
-        asking(settings, numbers, key)
+        return;
     }
+    fill(feedback, settings, numbers, key);
 }
 
-/// Asks for what is missing, and for a keyframe, once a datagram was handled. One that isn't taken asks for nothing.
+/// The same where there is something to ask for: a function of its own, since what it builds is large.
+#[inline(never)]
+fn fill(feedback: &mut Feedback, settings: &Settings, numbers: &[u64], key: bool)
+    requires near { AreNear numbers.now }
+    ensures nack { feedback.new.nack ≡ nack_for settings.now numbers.now }
+    ensures pli { feedback.new.pli ≡ pli_for settings.now key }
+{
+    *feedback = feedback_of(settings, numbers, key);
+}
+
+/// What is missing, and whether a keyframe is to be asked for, once a datagram was handled. The numbers to ask for
+/// become the whole list. A datagram that isn't taken asks for nothing.
 fn ask<C: Codec>(
     assembler: &Assembler<C>,
     requests: &mut Requests,
     numbers: &mut ArrayVec<u64, 2048>,
     arrival: &Option<Arrival>,
-) -> Feedback
+) -> bool
     requires below { IfSome arrival.now (λ a. AreBelow a.newest requests.old.asks) }
     requires short { IfSome arrival.now (λ a. IfSome a.newest (λ m. m < 2 ^ 62)) }
     ensures wanted { requests.new ≡ wanted_with assembler.now.clock assembler.now.front (greatest_of (key_numbers assembler.now.frames)) arrival.now requests.old }
-    ensures nack { result.nack ≡ nack_for assembler.now.settings (asked_with arrival.now) }
-    ensures pli { result.pli ≡ pli_for assembler.now.settings (key_with assembler.now.clock (greatest_of (key_numbers assembler.now.frames)) arrival.now requests.old) }
+    ensures numbers { numbers.new.items ≡ asked_with arrival.now }
+    ensures near { AreNear (asked_with arrival.now) }
+    ensures key { result ≡ key_with assembler.now.clock (greatest_of (key_numbers assembler.now.frames)) arrival.now requests.old }
     ensures sound { IsSome arrival.now → IsAsks requests.old.asks }
 {
     match arrival {
-        None => NO_FEEDBACK,
+        None => {
+            numbers.clear();
+            false
+        }
         Some(arrival) => {
             let now = assembler.now();
             let front = assembler.front();
             let key = assembler.greatest_key();
-            let asks_key = requests.taken(now, arrival, front, key, numbers);
-            feedback_of(assembler.settings(), numbers.as_slice(), asks_key)
+            requests.taken(now, arrival, front, key, numbers)
         }
     }
 }
@@ -180,14 +202,14 @@ impl<C: Codec> Engine<C> {
         let Ok(requests) = Requests::new(alloc) else {
             return Err(NewFault::NoMemory);
         };
+        let Ok(due) = nothing_due(alloc) else {
+            return Err(NewFault::NoMemory);
+        };
         Ok(Engine {
             alloc,
             assembler,
             requests,
-            due: Due {
-                ask: ArrayVec::new(),
-                give_up: ArrayVec::new(),
-            },
+            due,
         })
     }
 
@@ -244,16 +266,25 @@ impl<C: Codec> Engine<C> {
         runs_are();
         runs_rise();
         let outcome = self.assembler.handle(moment, bytes)?;
-        Ok(Handled {
-            feedback: ask(
-                &self.assembler,
-                &mut self.requests,
-                &mut self.due.ask,
-                &outcome.arrival,
-            ),
+        let key = ask(
+            &self.assembler,
+            &mut self.requests,
+            &mut self.due.ask,
+            &outcome.arrival,
+        );
+        let repaired = repaired_by(self.alloc, outcome.arrival);
+        let numbers = self.due.ask.as_slice();
+        let settings = self.assembler.settings();
+        let mut handled = Handled {
             what: outcome.what,
-            repaired: repaired_by(self.alloc, outcome.arrival),
-        })
+            repaired,
+            feedback: Feedback {
+                nack: None,
+                pli: None,
+            },
+        };
+        ask_for(&mut handled.feedback, settings, numbers, key);
+        Ok(handled)
     }
 
     /// Takes the time, in milliseconds. What is missing is asked for again at the interval of the settings, ten times in

@@ -42,6 +42,7 @@ fn place_in(layers: Option<Layers>, pictures: &Pictures) -> Option<Place>
 
 /// The packet to hold of a datagram that was seen so, beside the newest picture. It takes the memory of its text, or
 /// of its FEC payload.
+#[inline(always)]
 pub(crate) fn held_of<C: Codec>(
     alloc: Global,
     octets: &[u8],

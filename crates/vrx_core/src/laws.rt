@@ -42,7 +42,9 @@ pub fn honest_call()
 /// places below the greatest packet taken and fewer than 32,768 above it. If it is taken, it is answered as what it
 /// brings, by its packet's number. The packets available are those taken or repaired that lie fewer than 2,048 places
 /// below the greatest, each under its number and as it was sent: a media packet octet for octet, without padding, a FEC
-/// packet by its payload, and an empty packet as empty. Nothing else is available.
+/// packet by its payload, and an empty packet as empty. Nothing else is available. The newest number is that of the
+/// greatest packet taken. Each place told is that of the frame of its packet: its picture is the sender's and one
+/// constant, and on the wire it is as it was sent.
 pub fn honest_taken()
     ensures taken { HonestTakenHolds }
 {

@@ -76,6 +76,7 @@ fn brought_in<'a, C: Codec>(payload: &'a [u8]) -> Result<PayloadSeen<'a>, Reason
 }
 
 /// Why a payload is refused, if it isn't that of a FEC packet of this number (RFC 5109 7).
+#[inline(never)]
 fn reads_as_fec(payload: &[u8], own: u16) -> Result<(), Reason>
     ensures content { parity_content payload.now (fec_reading payload.now own) ≡ result_map_both (λ _. Fec payload.now) (λ reason. reason) result }
 {
@@ -118,6 +119,7 @@ fn is_fec(settings: &Settings, pt: u8) -> bool
 }
 
 /// The original of a retransmission (RFC 4588 4), or why there is none.
+#[inline(never)]
 fn sent_again<'a>(settings: &Settings, packet: &RtpView<'a>) -> Result<RtpView<'a>, Reason>
     ensures value { original_from settings.now (view packet.now) settings.now.rtx ≡ result_map_both view (λ reason. reason) result }
 {
@@ -135,6 +137,7 @@ fn sent_again<'a>(settings: &Settings, packet: &RtpView<'a>) -> Result<RtpView<'
 }
 
 /// The packet of the media source that a packet is: itself, or the original of a retransmission.
+#[inline(always)]
 fn media_packet<'a>(settings: &Settings, packet: &RtpView<'a>) -> Result<RtpView<'a>, Reason>
     ensures value { media_packet_of settings.now (view packet.now) ≡ result_map_both view (λ reason. reason) result }
 {
@@ -159,6 +162,7 @@ fn as_media<'a>(settings: &Settings, packet: &RtpView<'a>, payload: &'a [u8]) ->
 }
 
 /// What a RED packet carries by its one block.
+#[inline(never)]
 fn in_block<'a>(
     settings: &Settings,
     packet: &RtpView<'a>,
@@ -179,6 +183,7 @@ fn in_block<'a>(
 }
 
 /// What a packet carries, out of RED (RFC 2198 3) if it is in RED.
+#[inline(always)]
 fn out_of_red<'a>(settings: &Settings, packet: &RtpView<'a>) -> Result<Carried<'a>, Reason>
     ensures value { out_of_red_of settings.now (view packet.now) ≡ result_map_both view_carried (λ reason. reason) result }
 {
@@ -193,6 +198,7 @@ fn out_of_red<'a>(settings: &Settings, packet: &RtpView<'a>) -> Result<Carried<'
 }
 
 /// What a packet is, or why it is refused.
+#[inline(always)]
 fn original_of<'a, C: Codec>(
     settings: &Settings,
     packet: &RtpView<'a>,
@@ -239,6 +245,7 @@ fn fault_reason(kind: RtpFaultKind) -> Reason
 }
 
 /// What becomes of RTCP.
+#[inline(never)]
 fn control(octets: &[u8]) -> NotTaken
     requires some { 1 ≤ length octets.now }
     ensures control { result ≡ control_of octets.now }
@@ -255,6 +262,7 @@ fn has_32_bits(ssrc: u32)
 {}
 
 /// What octets are that aren't RTCP, or why they are refused.
+#[inline(always)]
 fn original_in<'a, C: Codec>(
     settings: &Settings,
     octets: &'a [u8],
@@ -275,6 +283,7 @@ fn original_in<'a, C: Codec>(
 }
 
 /// The packet of the stream that a datagram is, or what becomes of it, whatever came before. It takes no memory.
+#[inline(always)]
 pub(crate) fn original<'a, C: Codec>(
     settings: &Settings,
     octets: &'a [u8],

@@ -12,6 +12,7 @@ use vrx_num::NoMemory;
 use vrx_rtp::{RtpView, write};
 
 /// The packet written without its padding (RFC 3550 5.1: P = 0).
+#[inline(never)]
 fn bare_text(alloc: Global, packet: &RtpView<'_>) -> Result<Bytes, NoMemory>
     requires fits { Fits (view packet.now) }
     ensures text { IfOk result (λ text. text ≡ packet_text (view packet.now)) }
@@ -25,6 +26,7 @@ fn bare_text(alloc: Global, packet: &RtpView<'_>) -> Result<Bytes, NoMemory>
 
 /// The text of the packet that a datagram brings: the datagram if it is that packet as it stands, and else the packet
 /// written without its padding (RFC 3550 5.1).
+#[inline(always)]
 pub(crate) fn text_of(
     alloc: Global,
     octets: &[u8],

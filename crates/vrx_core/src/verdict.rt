@@ -26,6 +26,7 @@ pub(crate) struct TakenPacket<'a> {
 }
 
 /// What a datagram is taken as, or what becomes of it. It takes no memory.
+#[inline(always)]
 pub(crate) fn verdict<'a, C: Codec>(
     settings: &Settings,
     extender: &Extender,

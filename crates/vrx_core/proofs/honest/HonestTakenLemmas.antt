@@ -15,10 +15,11 @@ use Rattle.vrx_core.specs.machine.Verdict.{verdict}
 use Rattle.vrx_core.specs.machine.GivenUp.{is_lost}
 use Rattle.vrx_core.specs.machine.Machine.{latest, next_run, what_of, what_in, answer_taken, snapshots, reply}
 use Rattle.vrx_core.specs.honest.Sender.{SentPacket, Sender, wire_of}
+use Rattle.vrx_core.specs.honest.Layers.{LayersAreRight}
 use Rattle.vrx_core.specs.honest.WireForm.{content_sent}
 use Rattle.vrx_core.specs.honest.HonestSender.{HonestSender}
 use Rattle.vrx_core.specs.honest.HonestNetwork.{Origin, FromSender, Elsewhere, IsNear, IsDelivery, HonestNetwork, PicturesAreNear, greatest, packets_taken}
-use Rattle.vrx_core.specs.honest.HonestTaken.{IsInReach, IsRepaired, IsToTake, KeepsRightly, TakesPacket, IsTakenRightly, TakesRightly, HonestTakenHolds}
+use Rattle.vrx_core.specs.honest.HonestTaken.{IsInReach, IsNewestOf, IsRepaired, IsToTake, KeepsRightly, TakesPacket, IsTakenRightly, TakesRightly, HonestTakenHolds}
 use Rattle.vrx_core.specs.honest.Ready.{IsNumber}
 use Rattle.vrx_core.specs.declared.settings.Settings.{Settings}
 use Rattle.vrx_core.specs.declared.event.Event.{Event}
@@ -29,12 +30,13 @@ use Rattle.vrx_core.proofs.machine.PacketLemmas.{open-newest}
 use Rattle.vrx_core.proofs.machine.VerdictLemmas.{IsFresh, fresh-is, fresh-from}
 use Rattle.vrx_core.proofs.honest.LostLemmas.{Matches, matches}
 use Rattle.vrx_core.proofs.honest.BroughtLemmas.{verdict_taken, verdict_take}
-use Rattle.vrx_core.proofs.honest.NumberLemmas.{IsNewestOf, taken-number, wire_below, is_number-extends}
+use Rattle.vrx_core.proofs.honest.NumberLemmas.{taken-number, wire_below, is_number-extends}
 use Rattle.vrx_core.proofs.honest.PartLemmas.{some_from}
 use Rattle.vrx_core.proofs.honest.KeptLemmas.{AreKept, kept-there}
 use Rattle.vrx_core.proofs.honest.KeepsLemmas.{Came, Keeps, greatest-upto, near-number, number-near, one-number, one-place}
+use Rattle.vrx_core.proofs.honest.PlaceLemmas.{tells-rightly}
 use Rattle.vrx_core.proofs.honest.WireLemmas.{FormLaws, Brings, brings}
-use Rattle.vrx_core.proofs.honest.TookLemmas.{TookNow, Took, opening-took, brought-took, aside-took, tick-took, pull-took}
+use Rattle.vrx_core.proofs.honest.TookLemmas.{Took, opening-took, brought-took, aside-took, tick-took, pull-took}
 
 -- a list of which nothing is available
 nothing_there : (sender : Sender) (rep : ℕ → Type 0) (packets : Packets) (n : ℕ) → Keeps sender [] rep packets →
@@ -227,20 +229,20 @@ module _ (settings : Settings) (codec : Meaning) (sender : Sender) (h : List Eve
       (λ packet. at n packets_now ≡ Some (content_sent packet)))
       (one-place sender (packets_taken settings codec h origins) p.0 i n p.1 is) p.2
 
-  -- the packets available are those to keep
-  kept_rightly : TookNow sender (latest (snapshots settings codec h)).window
-      (packets_taken settings codec h origins) (IsRepaired (snapshots settings codec h)) →
+  -- the packets available are those to keep, and the newest number and the places told are the sender's
+  kept_rightly : LayersAreRight sender.frames →
+      Took sender (snapshots settings codec h) (packets_taken settings codec h origins) →
       KeepsRightly settings codec sender h origins
-  kept_rightly t = record {
+  kept_rightly right t = record {
     kept = λ i. (
       λ k. available_keeps sender (IsRepaired (snapshots settings codec h)) (packets_taken settings codec h origins)
-          packets_now i k.0 t.keeps k.1 (there_available k.0 (slice_get sender.packets i) k.2),
+          packets_now i k.0 t.here.keeps k.1 (there_available k.0 (slice_get sender.packets i) k.2),
       λ k. let p = keeps_available sender (IsRepaired (snapshots settings codec h))
           (packets_taken settings codec h origins) (latest (snapshots settings codec h)).window.newest packets_now i
-          t.newest t.keeps k.0 k.1 in
-          (p.0, p.1, available_there i p.0 t.kept p.1 p.2),
+          t.here.newest t.here.keeps k.0 k.1 in
+          (p.0, p.1, available_there i p.0 t.here.kept p.1 p.2),
     );
-    only = λ n h'. let p = t.keeps.from n h' in (
+    only = λ n h'. let p = t.here.keeps.from n h' in (
       p.0,
       p.2,
       (
@@ -248,6 +250,9 @@ module _ (settings : Settings) (codec : Meaning) (sender : Sender) (h : List Eve
         p.3,
       ),
     );
+    newest = t.here.newest;
+    told = tells-rightly sender right (packets_taken settings codec h origins) (IsRepaired (snapshots settings codec h))
+        (latest (snapshots settings codec h)).told t.told;
   }
 
   -- what is one to take by its numbers is one to take
@@ -347,11 +352,11 @@ module _ (meant : GivesMeant) (picture : GivesPicture) (laws : FormLaws) (truth 
       Took sender (snapshots settings codec h) (packets_taken settings codec h origins) →
       HonestNetwork settings codec sender h origins events later →
       TakesRightly settings codec sender h origins events later
-  takes_from [] h origins [] t network = kept_rightly settings codec sender h origins t.here
+  takes_from [] h origins [] t network = kept_rightly settings codec sender h origins honest.layers t
   takes_from [] h origins (o ∷ os) t network = absurd network
   takes_from (e ∷ es) h origins [] t network = absurd network
   takes_from (e ∷ es) h origins (o ∷ os) t network = (
-    kept_rightly settings codec sender h origins t.here,
+    kept_rightly settings codec sender h origins honest.layers t,
     rightly_step settings codec sender h origins meant picture laws truth good honest t e o network.0,
     takes_from es (e ∷ h) (o ∷ origins) os
         (took_step settings codec sender h origins meant picture laws truth good honest t e o network.0 network.1)

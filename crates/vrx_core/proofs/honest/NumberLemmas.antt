@@ -1,11 +1,12 @@
 -- The numbers by which the receiver knows the sender's packets.
-use Rattle.std.proofs.Common.{◌≡◌, ℕ, ◌+◌, ◌-◌, ◌%◌, ◌<◌, ◌≤◌, max, List, [], ◌∷◌, Option, Some, None, sym, ap, subst, arith}
+use Rattle.std.proofs.Common.{◌≡◌, ℕ, ◌+◌, ◌-◌, ◌%◌, ◌<◌, ◌≤◌, max, List, [], ◌∷◌, Option, Some, sym, ap, subst, arith}
 use Rattle.std.proofs.lemmas.Option.{same_Some}
 use Rattle.vrx_num.specs.Extended.{Extends, GivesMeant, extended_number}
 use Rattle.vrx_num.specs.declared.limits.TheConstants.{WINDOW, HALF_SPACE}
 use Rattle.vrx_window.specs.Window.{newest_with}
 use Rattle.vrx_core.specs.honest.Sender.{Sender, wire_of}
 use Rattle.vrx_core.specs.honest.HonestNetwork.{IsNear, greatest}
+use Rattle.vrx_core.specs.honest.HonestTaken.{IsNewestOf}
 use Rattle.vrx_core.specs.honest.Ready.{IsNumber}
 
 -- the packet that was taken first, of those taken (the newest first)
@@ -72,12 +73,6 @@ near-number begin first m g i n from is ahead behind same not_far_ahead not_far_
 -- a wire number has 16 bits
 pub wire_below : (sender : Sender) (i : ℕ) → wire_of sender i < 65536
 wire_below sender i = omega arith
-
--- the newest number is the number of the greatest packet taken
-abbrev pub IsNewestOf : Sender → List ℕ → Option ℕ → Type 0
-IsNewestOf sender [] newest = newest ≡ None
-IsNewestOf sender (j ∷ js) newest =
-    (m : ℕ) × (newest ≡ Some m) × (65536 ≤ m) × IsNumber sender (j ∷ js) (greatest (j ∷ js)) m
 
 -- the number of a packet that is near those taken
 pub near-is_number : (sender : Sender) (j : ℕ) (js : List ℕ) (m i n : ℕ) → 65536 ≤ m →

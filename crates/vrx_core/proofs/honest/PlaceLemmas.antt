@@ -1,5 +1,5 @@
 -- The place by which the receiver knows a frame of an honest sender, and a run that is the frame.
-use Rattle.std.proofs.Common.{◌≡◌, ℕ, ◌≤◌, Bool, true, false, if◌then◌else◌, List, [], ◌∷◌, slice_get, Contains, Option, Some, None, IsSomeAnd, refl, sym, ◌∙◌, ap, subst, arith, inl, inr}
+use Rattle.std.proofs.Common.{◌≡◌, ℕ, ◌+◌, ◌≤◌, Bool, true, false, if◌then◌else◌, List, [], ◌∷◌, slice_get, Contains, Option, Some, None, IsSomeAnd, refl, sym, ◌∙◌, ap, subst, arith, inl, inr}
 use Rattle.std.specs.Prelude.{◌==◌}
 use Rattle.std.specs.Option.{option_and_then}
 use Rattle.std.proofs.lemmas.Bool.{eq-eqb, eqb-true, true≢false}
@@ -10,13 +10,15 @@ use Rattle.vrx_window.specs.Window.{is_available}
 use Rattle.vrx_frames.specs.Run.{Packets, Run}
 use Rattle.vrx_core.specs.machine.Told.{Told, place_told}
 use Rattle.vrx_core.specs.honest.Sender.{SentFrame, Sender, IsOf}
-use Rattle.vrx_core.specs.honest.Layers.{layers_at}
+use Rattle.vrx_core.specs.honest.Layers.{LayersAreRight, layers_at}
 use Rattle.vrx_core.specs.honest.Ready.{IsNumber}
 use Rattle.vrx_core.specs.honest.HonestRuns.{IsFrameRun, IsSamePlace}
+use Rattle.vrx_core.specs.honest.HonestTaken.{TellsRightly}
 use Rattle.vrx_core.proofs.machine.MemberLemmas.{Contains-head, Contains-tail, Contains-either, Contains-empty}
+use Rattle.vrx_core.proofs.honest.PartLemmas.{some_from}
 use Rattle.vrx_core.proofs.honest.KeepsLemmas.{Came, Keeps, one-place}
 use Rattle.vrx_core.proofs.honest.TellLemmas.{IsPlaceOf, TellsFrame, ToldRightly}
-use Rattle.vrx_core.proofs.honest.ToldLemmas.{frame-told}
+use Rattle.vrx_core.proofs.honest.ToldLemmas.{frame-told, rise-between}
 
 -- the place that a number told is among those told
 pub place_among : (n : ℕ) (told : Told) (place : Place) → place_told told n ≡ Some place → Contains told (n, place)
@@ -110,3 +112,32 @@ module _ (sender : Sender) (js : List ℕ) (rep : ℕ → Type 0) (told : Told) 
       let p : (place : Place) × (place_told told run.first ≡ Some place) × IsPlaceOf sender t.up t.down f place =
       known-place is.numbered.from run.first f sent came is.numbered.first_is of sent_is in
       (p.0, layers ∙ p.1, p.2)
+
+-- the places told are those of the sender's frames, their pictures and one constant: the one by which the frame of the
+-- place told last has its picture
+pub tells-rightly : (sender : Sender) → LayersAreRight sender.frames → (js : List ℕ) (rep : ℕ → Type 0) (told : Told) →
+    ToldRightly sender js rep told → TellsRightly sender js told
+tells-rightly sender right js rep [] t = record {
+  up = 0;
+  down = 0;
+  each = λ entry there. absurd (Contains-empty entry there);
+}
+tells-rightly sender right js rep (e ∷ told) t =
+    let last : TellsFrame sender js rep t.up t.down e = t.each e (Contains-head e told) in
+    let base : Place = last.place_is.sent in
+    record {
+      up = t.up + last.f;
+      down = t.down + base.picture;
+      each = λ entry there.
+          let u : TellsFrame sender js rep t.up t.down entry = t.each entry there in
+          let sent : Place = u.place_is.sent in
+          let rise : sent.picture + last.f ≡ base.picture + u.f =
+          rise-between sender.frames right u.f last.f sent base u.place_is.sent_is last.place_is.sent_is in
+          let picture : entry.1.picture + t.down ≡ u.f + t.up = u.place_is.picture in (
+            u.f,
+            (u.i, u.numbered, u.of_frame),
+            some_from (λ place. (entry.1.picture + (t.down + base.picture) ≡ place.picture + (t.up + last.f))
+                × (on_wire entry.1 ≡ on_wire place)) (layers_at sender.frames u.f) sent u.place_is.sent_is
+                (omega (arith, rise, picture), u.place_is.same),
+          );
+    }

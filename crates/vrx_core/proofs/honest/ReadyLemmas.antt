@@ -28,7 +28,7 @@ use Rattle.vrx_core.specs.honest.Layers.{HaveNoLayers, IsKey, KeepsLayers, layer
 use Rattle.vrx_core.specs.honest.HonestSender.{CarriedPart, IsPart, Travels, HonestSender}
 use Rattle.vrx_core.specs.honest.HonestNetwork.{Origin, greatest, packets_taken}
 use Rattle.vrx_core.specs.honest.Ready.{IsEvident, IsNumber, IsPassedUpTo, SaysStart, BeginsEvidently, StandsComplete, Ready, WasPulled}
-use Rattle.vrx_core.specs.honest.HonestTaken.{IsRepaired}
+use Rattle.vrx_core.specs.honest.HonestTaken.{IsNewestOf, IsRepaired}
 use Rattle.vrx_core.specs.honest.HonestRuns.{IsFrameRun}
 use Rattle.vrx_core.specs.honest.HonestCall.{IsSentFrame, IsLeastReady}
 use Rattle.vrx_core.specs.declared.settings.Settings.{Settings}
@@ -39,7 +39,7 @@ use Rattle.vrx_core.proofs.machine.TestLemmas.{list_any-from}
 use Rattle.vrx_core.proofs.machine.PulledLemmas.{beyond-every, beyond-last, stands-beyond}
 use Rattle.vrx_core.proofs.machine.StandingLemmas.{IsRunNow, stands_from, standing_is, standing-from, standing-to}
 use Rattle.vrx_core.proofs.asking.FrontLemmas.{passed-upto}
-use Rattle.vrx_core.proofs.honest.NumberLemmas.{IsNewestOf, IsNumber-upto}
+use Rattle.vrx_core.proofs.honest.NumberLemmas.{IsNumber-upto}
 use Rattle.vrx_core.proofs.honest.KeepsLemmas.{Came, near-number, one-number, one-place}
 use Rattle.vrx_core.proofs.honest.KeptLemmas.{kept-there}
 use Rattle.vrx_core.proofs.honest.PartLemmas.{IsSent, frame_spans, frame_travels, frame_upto, one_span, part-of, size, some_holds, some_from, some_there}

@@ -23,7 +23,7 @@ use Rattle.vrx_core.specs.honest.Sender.{SentPacket, Sender, wire_of}
 use Rattle.vrx_core.specs.honest.WireForm.{content_sent}
 use Rattle.vrx_core.specs.honest.HonestSender.{HonestSender}
 use Rattle.vrx_core.specs.honest.HonestNetwork.{AreNearTold, IsNear, greatest}
-use Rattle.vrx_core.specs.honest.HonestTaken.{IsRepaired}
+use Rattle.vrx_core.specs.honest.HonestTaken.{IsNewestOf, IsRepaired}
 use Rattle.vrx_core.specs.honest.Ready.{IsNumber}
 use Rattle.vrx_core.specs.declared.settings.Settings.{Settings}
 use Rattle.vrx_core.specs.declared.original.NotTaken.{NotTaken}
@@ -34,7 +34,7 @@ use Rattle.vrx_core.proofs.machine.RepairLemmas.{Fills}
 use Rattle.vrx_core.proofs.machine.RepairedLemmas.{made-each, made-from, made-here, made-stays}
 use Rattle.vrx_core.proofs.machine.VerdictLemmas.{fresh-is}
 use Rattle.vrx_core.proofs.honest.BroughtLemmas.{verdict_taken, verdict_aside}
-use Rattle.vrx_core.proofs.honest.NumberLemmas.{IsNewestOf, IsNumber-upto, taken-number, taken-newest}
+use Rattle.vrx_core.proofs.honest.NumberLemmas.{IsNumber-upto, taken-number, taken-newest}
 use Rattle.vrx_core.proofs.honest.KeptLemmas.{IsKept, AreKept, kept-among, placed-kept, grown-kept}
 use Rattle.vrx_core.proofs.honest.KeepsLemmas.{Came, IsMadeAt, Keeps, made-keeps, near-number, number-near, placed-keeps}
 use Rattle.vrx_core.proofs.honest.RightLemmas.{repaired-kept, window-kept}

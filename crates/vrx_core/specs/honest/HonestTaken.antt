@@ -1,17 +1,23 @@
 -- What a receiver takes and keeps in an honest call, said in the sender's terms. A datagram of the sender is taken
 -- exactly if its packet is in reach, and was neither taken before nor repaired nor given up: the receiver doesn't wait
--- any longer for a packet that it gave up, and drops it if it comes.
-use Rattle.std.specs.Prelude.{◌≡◌, ℕ, ◌+◌, ◌<◌, ◌↔◌, true, List, [], ◌∷◌, slice_get, Some, None, IsSomeAnd}
+-- any longer for a packet that it gave up, and drops it if it comes. Its numbers and its pictures are the sender's, each
+-- and a constant.
+use Rattle.std.specs.Prelude.{◌≡◌, ℕ, ◌+◌, ◌<◌, ◌≤◌, ◌↔◌, true, List, [], ◌∷◌, slice_get, Contains, Option, Some, None, IsSomeAnd}
 use Rattle.vrx_codec.specs.Meaning.{Meaning}
+use Rattle.vrx_codec.specs.declared.run.Place.{Place}
 use Rattle.vrx_num.specs.declared.limits.TheConstants.{WINDOW, HALF_SPACE}
+use Rattle.vrx_window.specs.Sound.{on_wire}
 use Rattle.vrx_window.specs.Window.{at, is_available}
 use Rattle.vrx_core.specs.machine.SettingsFault.{fault_of}
 use Rattle.vrx_core.specs.machine.GivenUp.{is_lost}
 use Rattle.vrx_core.specs.machine.Machine.{answer_taken, latest, snapshots, reply, what_in}
+use Rattle.vrx_core.specs.machine.Told.{Told}
 use Rattle.vrx_core.specs.honest.Sender.{Sender}
+use Rattle.vrx_core.specs.honest.Layers.{layers_at}
 use Rattle.vrx_core.specs.honest.WireForm.{content_sent}
 use Rattle.vrx_core.specs.honest.HonestSender.{HonestSender}
 use Rattle.vrx_core.specs.honest.HonestNetwork.{Origin, FromSender, Elsewhere, HonestNetwork, greatest, takes, packets_taken}
+use Rattle.vrx_core.specs.honest.Number.{IsOfFrame}
 pub use Rattle.vrx_core.specs.honest.Number.{HasCome, IsNumber, IsRepaired}
 use Rattle.vrx_core.specs.declared.settings.Settings.{Settings}
 use Rattle.vrx_core.specs.declared.event.Event.{Event}
@@ -47,7 +53,22 @@ IsKeptAt settings codec sender h origins i = (n : ℕ) × IsNumber sender (packe
     × IsSomeAnd (slice_get sender.packets i)
     (λ packet. at n (latest (snapshots settings codec h)).window.packets ≡ Some (content_sent packet))
 
--- what is available after a history
+-- the newest number is that of the greatest packet taken, and at least 65,536
+abbrev pub IsNewestOf : Sender → List ℕ → Option ℕ → Type 0
+IsNewestOf sender [] newest = newest ≡ None
+IsNewestOf sender (j ∷ js) newest =
+    (m : ℕ) × (newest ≡ Some m) × (65536 ≤ m) × IsNumber sender (j ∷ js) (greatest (j ∷ js)) m
+
+-- each number told a place of the frame of its packet: its picture is the sender's and one constant, which may be below
+-- nothing, so that each side has a summand; and on the wire the place is as it was sent
+pub record TellsRightly (sender : Sender) (js : List ℕ) (told : Told) : Type 0 where
+  pub up : ℕ
+  pub down : ℕ
+  pub each : (entry : ℕ × Place) → Contains told entry → (f : ℕ) × IsOfFrame sender js entry.0 f
+      × IsSomeAnd (layers_at sender.frames f)
+      (λ sent. (entry.1.picture + down ≡ sent.picture + up) × (on_wire entry.1 ≡ on_wire sent))
+
+-- what is available after a history, and what is known by it
 pub record KeepsRightly (settings : Settings) (codec : Meaning) (sender : Sender) (h : List Event)
     (origins : List Origin) : Type 0 where
   -- a packet is available, under its number and with its content, exactly if it is one to keep
@@ -57,6 +78,11 @@ pub record KeepsRightly (settings : Settings) (codec : Meaning) (sender : Sender
   pub only : (n : ℕ) → is_available n (latest (snapshots settings codec h)).window.packets ≡ true →
       (i : ℕ) × IsNumber sender (packets_taken settings codec h origins) i n
       × IsToKeep settings codec sender h origins i
+  -- the newest number is that of the greatest packet taken
+  pub newest : IsNewestOf sender (packets_taken settings codec h origins)
+      (latest (snapshots settings codec h)).window.newest
+  -- the places told are those of the sender's frames, their pictures and one constant
+  pub told : TellsRightly sender (packets_taken settings codec h origins) (latest (snapshots settings codec h)).told
 
 -- what a datagram that brings packet i of the sender meets after a history
 pub record TakesPacket (settings : Settings) (codec : Meaning) (sender : Sender) (h : List Event)

@@ -1,5 +1,6 @@
 use Rattle.std.proofs.Common.{◌≡◌, ℕ, max, List, ◌∷◌, Option, sym, subst, ap, ◌∙◌}
 use Rattle.std.specs.Prelude.{is_some}
+use Rattle.vrx_asks.specs.declared.due.Due.{Due}
 use Rattle.vrx_asks.specs.Asks.{asked_numbers, given_up_numbers}
 use Rattle.vrx_window.specs.Window.{Contents}
 use Rattle.vrx_window.specs.declared.held.Held.{Held}
@@ -20,7 +21,8 @@ use Rattle.vrx_core.proofs.engine.Engine.tick.Goals as goal
 lost-is : (g : given.Over) (c : goal.After-as_slice g) →
     c.as_slice.result.now ≡ given_up_numbers c.now-now.result c.settings.result.now.interval
     c.self.inside.requests.asks
-lost-is g c = c.as_slice.ensures.value ∙ c.ticked-asks_key.ensures.lost
+lost-is g c = c.as_slice.ensures.value ∙ ap (λ (due : Due). due.give_up.items) c.deref.ensures
+    ∙ c.ticked-asks_key.ensures.lost
 
 pub give_up_all-requires : goal.give_up_all-requires
 give_up_all-requires g c = record {
@@ -34,7 +36,8 @@ give_up_all-requires g c = record {
 
 pub feedback_of-requires : goal.feedback_of-requires
 feedback_of-requires g c = record {
-  near = subst AreNear (sym (c.as_slice-2.ensures.value ∙ c.ticked-asks_key.ensures.numbers))
+  near = subst AreNear (sym (c.as_slice-2.ensures.value ∙ ap (λ (due : Due). due.ask.items) c.deref-2.ensures
+      ∙ c.ticked-asks_key.ensures.numbers))
       (near-asked c.now-now.result c.settings.result.now.interval c.self.inside.requests.asks
       c.ticked-asks_key.ensures.sound);
 }
@@ -52,7 +55,8 @@ numbers-are : (g : given.Over) (c : goal.After-feedback_of g) →
     c.as_slice.result.now ≡ given_up_numbers
     (max c.self.inside.assembler.clock c.args.moment) c.self.inside.assembler.settings.interval
     c.self.inside.requests.asks
-numbers-are g c = c.as_slice.ensures.value ∙ c.ticked-asks_key.ensures.lost
+numbers-are g c = c.as_slice.ensures.value ∙ ap (λ (due : Due). due.give_up.items) c.deref.ensures
+    ∙ c.ticked-asks_key.ensures.lost
     ∙ (λ i. given_up_numbers (now-is g c i) (settings-are g c i).interval c.self.inside.requests.asks)
 
 after-is : (g : given.Over) (c : goal.After-feedback_of g) →
@@ -118,7 +122,8 @@ asked-are : (g : given.Over) (c : goal.After-feedback_of g) →
     c.as_slice-2.result.now ≡ asked_numbers
     (max c.self.inside.assembler.clock c.args.moment) c.self.inside.assembler.settings.interval
     c.self.inside.requests.asks
-asked-are g c = c.as_slice-2.ensures.value ∙ c.ticked-asks_key.ensures.numbers
+asked-are g c = c.as_slice-2.ensures.value ∙ ap (λ (due : Due). due.ask.items) c.deref-2.ensures
+    ∙ c.ticked-asks_key.ensures.numbers
     ∙ (λ i. asked_numbers (now-is g c i) (settings-are g c i).interval c.self.inside.requests.asks)
 
 asks-is : (g : given.Over) (c : goal.After-feedback_of g) →
