@@ -1,0 +1,11 @@
+pub mod ListLemmas
+pub mod CallLemmas
+pub mod WorkerLemmas
+pub mod WeaveLemmas
+pub mod KeptLemmas
+pub mod FitLemmas
+pub mod PlacedLemmas
+pub mod ShareLemmas
+pub mod JoinedLemmas
+pub mod RunLemmas
+pub mod EndLemmas
