@@ -1,0 +1,9 @@
+pub mod DrawsLemmas
+pub mod BroughtLemmas
+pub mod NumbersLemmas
+pub mod FecLemmas
+pub mod PacketLemmas
+pub mod DrillLemmas
+pub mod EventsLemmas
+pub mod SenderLemmas
+pub mod honest
