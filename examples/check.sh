@@ -225,6 +225,20 @@ else
   fail "twenty thousand packets and one pull: $(tail -n 1 "$text" | cut -c1-60)"
 fi
 
+# three threads: each transcript is the replay of the order that it has, a bad line gives the error line alone, and a
+# capture without events nothing
+for runs in "one_keyframe 20" "real_call 200"; do
+  if tools/live_orders "examples/${runs% *}/capture" --runs "${runs#* }" > "$text" 2>&1; then
+    pass
+  else
+    fail "live of ${runs% *}: $(cat "$text")"
+  fi
+done
+printf '%s\nd 0 80\nx\n' "$head" > "$long"
+says live 2 $'error line 3 kind\n' "a bad line after an event"
+printf '%s\n' "$head" > "$long"
+says live 0 "" "no events"
+
 # told STATUS LINE INPUT OUTPUT WORD..: with these words the program ends so, and standard error has this line
 told() {
   local wanted=$1 line=$2 input=$3 output=$4 status
@@ -238,13 +252,15 @@ told() {
   fi
 }
 
-usage="usage: vrx replay|inspect < CAPTURE"
+usage="usage: vrx replay|live|inspect < CAPTURE"
 bad="vrx: a line of the capture is bad, or its settings are refused"
 told 0 "" $capture /dev/null replay
 told 0 "" $capture /dev/null inspect
+told 0 "" $capture /dev/null live
 told 1 "$usage" $capture /dev/null
 told 1 "$usage" $capture /dev/null replay twice
 told 1 "$usage" $capture /dev/null replay inspect
+told 1 "$usage" $capture /dev/null live twice
 told 1 "$usage" $capture /dev/null Inspect
 told 1 "$usage" $capture /dev/null $'replay\xff'
 told 2 "$bad" examples/bad_lines/kind.capture /dev/null replay
@@ -252,7 +268,9 @@ told 2 "$bad" examples/bad_lines/kind.capture /dev/null inspect
 told 2 "$bad" examples/bad_line_after_a_tick/capture /dev/null replay
 told 3 "vrx: a read failed" examples /dev/null replay
 told 3 "vrx: a read failed" examples /dev/null inspect
+told 3 "vrx: a read failed" examples /dev/null live
 told 4 "vrx: a write failed" $capture /dev/full replay
 told 4 "vrx: a write failed" $capture /dev/full inspect
+told 4 "vrx: a write failed" $capture /dev/full live
 echo "examples: $passed passed, $failed failed"
 [ "$failed" = 0 ]

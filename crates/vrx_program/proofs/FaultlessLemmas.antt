@@ -41,7 +41,7 @@ within-none : (long : Bool) (o : Option (CodecName × Settings)) (told : CodecNa
 within-none true o told is = absurd (no_value errors.Settings told is)
 within-none false o told is = settings_or_reason-none o told is
 
-line-none : (line : List ℕ) (told : CodecName × Settings) → settings_of line ≡ Ok told → fault_of told.1 ≡ None
+pub line-none : (line : List ℕ) (told : CodecName × Settings) → settings_of line ≡ Ok told → fault_of told.1 ≡ None
 unfolding settings_of
 line-none line told is = within-none (nat_lt longest_line (length line)) (settings_in line) told is
 

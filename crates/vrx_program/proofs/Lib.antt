@@ -13,8 +13,8 @@ pub mod SettingsLemmas
 pub mod FaultlessLemmas
 pub mod HonestLinesLemmas
 pub mod EvidentLemmas
-pub mod EngineRows
-pub mod HonestRows
-pub mod HonestH264Rows
 pub mod Rows
-pub mod WholeCallRows
+pub mod CallRows
+pub mod LiveReadLemmas
+pub mod LivePlayLemmas
+pub mod LiveEndLemmas

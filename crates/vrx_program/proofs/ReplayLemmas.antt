@@ -68,7 +68,7 @@ replay-begins line name settings told capture others lines = ap (λ l. outcome_o
 -- ---- the first line
 
 -- a line that is too long tells no settings
-settings-long : (line : List ℕ) → longest_line < length line → settings_of line ≡ Err errors.Settings
+pub settings-long : (line : List ℕ) → longest_line < length line → settings_of line ≡ Err errors.Settings
 unfolding settings_of
 settings-long line long =
     ap (λ b. cond b (Err errors.Settings) (settings_or_reason (settings_in line)))

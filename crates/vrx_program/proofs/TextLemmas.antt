@@ -42,7 +42,7 @@ took-later before mid after text next wrote (n, took) = (
       ∙ ap (with_more before) (sym (take-front text next n)),
 )
 
-part-later : (before mid after : Option (List ℕ)) (told text : List ℕ) → mid ≡ with_more before told →
+pub part-later : (before mid after : Option (List ℕ)) (told text : List ℕ) → mid ≡ with_more before told →
     TakesShortPrefix mid after text → TakesShortPrefix before after (told ++ text)
 part-later before mid after told text wrote part = record {
   count = length told + part.count;
@@ -52,7 +52,7 @@ part-later before mid after told text wrote part = record {
       ∙ ap (with_more before) (sym (take-front told text part.count));
 }
 
-part-longer : (before after : Option (List ℕ)) (text more : List ℕ) → TakesShortPrefix before after text →
+pub part-longer : (before after : Option (List ℕ)) (text more : List ℕ) → TakesShortPrefix before after text →
     TakesShortPrefix before after (text ++ more)
 part-longer before after text more part = record {
   count = part.count;

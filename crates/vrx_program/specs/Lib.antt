@@ -12,3 +12,5 @@ pub mod HasRead
 pub mod Runs
 pub mod HonestLines
 pub mod Number
+pub mod Live
+pub mod LiveReading

@@ -18,7 +18,7 @@ use vrx_num::NoMemory;
 use vrx_text::{ErrorReason, HeadFault, Line, LineFault, Lines, lines_join, text_of_error};
 
 /// Ends a run at a line that is refused: the error line is written as one piece.
-fn refuse<K: Sink>(alloc: Global, k: u32, reason: ErrorReason, sink: &mut K) -> Status
+pub(crate) fn refuse<K: Sink>(alloc: Global, k: u32, reason: ErrorReason, sink: &mut K) -> Status
     ensures ends { EndsBadly result (error_line k reason) (K.taken sink.old) (K.taken sink.new) }
     ensures status { result ≢ Status.BadUsage }
     ensures counted { (reads : ℕ) → IsCounted result reads reads (K.faults sink.old) (K.faults sink.new) }

@@ -21,7 +21,7 @@ pub(crate) struct Inspect {
 }
 
 /// The fault of settings, or that memory ran out.
-fn fault_of(alloc: Global, settings: Settings) -> Option<NewFault>
+pub(crate) fn fault_of(alloc: Global, settings: Settings) -> Option<NewFault>
     ensures fault { MatchOption result (fault_of_settings settings ≡ None) (λ fault.
         (fault ≡ NewFault.NoMemory) ⊎ (fault_of_settings settings ≡ Some fault)) }
 {

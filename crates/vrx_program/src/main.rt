@@ -18,6 +18,7 @@ mod driver;
 mod inspect;
 mod job;
 mod laws;
+mod live;
 mod replay;
 mod status;
 #[cfg(test)]
@@ -27,6 +28,7 @@ mod word;
 use crate::driver::drive;
 use crate::inspect::Inspect;
 pub use crate::laws::vp8_begins_evidently;
+pub use crate::live::{LiveEnd, run_live};
 use crate::replay::Replay;
 pub use crate::status::Status;
 pub use crate::word::Word;
@@ -34,9 +36,12 @@ use crate::word::word_of;
 use std::alloc::Global;
 use std::io::ErrorKind;
 use std::process::ExitCode;
+use std::sync::Wait;
+use std::thread::Threads;
 use std::{env, io};
 use vrx_core::honest_call;
 use vrx_io::{Sink, Source, StdSink, StdSource};
+use vrx_live::NoGate;
 use vrx_text::lines_join;
 
 /// Runs the program: `replay` reads a capture from the source and writes its transcript to the sink, and `inspect`
@@ -115,13 +120,29 @@ fn report(rt: &HostRuntime, status: Status) {
     }
 }
 
+/// Runs the program: `run_live` if the first word is live, and else `run`.
+fn run_words<R: Threads + Wait + Sync, S: Source, K: Sink>(
+    rt: &R,
+    alloc: Global,
+    words: &[String],
+    source: &mut S,
+    sink: &mut K,
+) -> Status {
+    match words.first() {
+        Some(word) if word.as_str() == "live" => {
+            run_live(rt, alloc, words, source, sink, &NoGate).status
+        }
+        _ => run(alloc, words, source, sink),
+    }
+}
+
 /// Runs the program over the standard streams, and ends with the status's number.
 fn main(rt: HostRuntime) -> ExitCode {
     let status = match words_of(&rt) {
         Ok(words) => {
             let mut source = StdSource::new(rt.stdin());
             let mut sink = StdSink::new(rt.stdout());
-            run(rt.alloc(), words.as_slice(), &mut source, &mut sink)
+            run_words(&rt, rt.alloc(), words.as_slice(), &mut source, &mut sink)
         }
         Err(error) if error.kind() == ErrorKind::OutOfMemory => Status::NoMemory,
         // A word that is no text is none that the program knows.

@@ -30,6 +30,9 @@ pub(crate) enum Replay {
 }
 
 /// Puts the text of an engine's reply to a datagram after a text.
+///
+/// An event of each kind is a function of its own, so that none clears what only another uses.
+#[inline(never)]
 fn take_datagram<C: Codec>(
     engine: &mut Engine<C>,
     k: u32,
@@ -45,11 +48,15 @@ fn take_datagram<C: Codec>(
     ensures settings { engine.new.settings ≡ engine.old.settings }
     ensures counted { OnOk result (engine.new.events ≡ engine.old.events + 1) }
 {
-    let handled = engine.datagram(moment, bytes)?;
-    write_handled(text, k, &handled)
+    // By reference, since a reply is large.
+    match &engine.datagram(moment, bytes) {
+        Ok(handled) => write_handled(text, k, handled),
+        Err(NoMemory) => Err(NoMemory),
+    }
 }
 
 /// The same of a tick.
+#[inline(never)]
 fn take_tick<C: Codec>(
     engine: &mut Engine<C>,
     k: u32,
@@ -69,6 +76,7 @@ fn take_tick<C: Codec>(
 }
 
 /// The same of a pull.
+#[inline(never)]
 fn take_pull<C: Codec>(
     engine: &mut Engine<C>,
     k: u32,

@@ -42,7 +42,7 @@ impl Status {
     {
         match self {
             Status::Done => None,
-            Status::BadUsage => Some("usage: vrx replay|inspect < CAPTURE"),
+            Status::BadUsage => Some("usage: vrx replay|live|inspect < CAPTURE"),
             Status::BadCapture => Some(
                 "vrx: a line of the capture is bad, or its settings are refused",
             ),

@@ -14,7 +14,7 @@ pub enum Word {
 }
 
 /// Whether the words are only this one.
-fn is_alone(words: &[String], text: &str) -> bool
+pub(crate) fn is_alone(words: &[String], text: &str) -> bool
     ensures { IsTrue result ↔ (map string_bytes words.now ≡ text.now ∷ []) }
 {
     match words {
