@@ -1,6 +1,6 @@
 -- The place of a number among numbers that rise.
 use Rattle.std.proofs.Common.{◌≡◌, ℕ, ◌<◌, ◌≤◌, Bool, true, List, [], ◌∷◌, zero, suc, length, get_or, refl, sym, ap, arith}
-use Rattle.std.specs.Prelude.{◌==◌, ◌≢◌, not, nat_lt, slice_get, Option, Some, Result, Ok, Err, IfSome, IfNone}
+use Rattle.std.specs.Prelude.{◌==◌, ◌≢◌, not, nat_lt, Option, Result, Ok, Err, IfSome, IfNone}
 use Rattle.std.specs.List.{filter, list_all, remove}
 use Rattle.std.specs.List.Sorted.{IsBinarySearchResult, IsNonDecreasingBy, IsSearchInRange}
 use Rattle.std.specs.Ordering.{nat_cmp, ordering_index}
@@ -25,12 +25,10 @@ above-first : (n : ℕ) (x : Ask) (xs : List Ask) → rises (x ∷ xs) ≡ true 
 above-first n x [] rise lt = grind (arith, common_steps)
 above-first n x (y ∷ ys) rise lt = grind (arith, common_steps, above-first n y ys)
 
-pub beyond-all : (n : ℕ) (x : Ask) (asks : List Ask) → rises asks ≡ true → Some x ≡ slice_get asks 0 → n < x.number
-    → beyond n asks ≡ asks
-beyond-all n x [] rise is lt = cc
-beyond-all n x (y ∷ ys) rise is lt =
-    let same : y ≡ x = cc in
-    filter-all (λ ask. nat_lt n ask.number) (y ∷ ys) (above-first n y ys rise (rw same lt))
+pub beyond-first : (n : ℕ) (asks : List Ask) (d : Ask) → rises asks ≡ true → 1 ≤ length asks
+    → n < (get_or asks 0 d).number → beyond n asks ≡ asks
+beyond-first n [] d rise some lt = absurd (omega arith)
+beyond-first n (y ∷ ys) d rise some lt = filter-all (λ ask. nat_lt n ask.number) (y ∷ ys) (above-first n y ys rise lt)
 
 -- a number that stands at no place
 without-absent : (n : ℕ) (asks : List Ask) → ((k : ℕ) (d : Ask) → k < length asks → (get_or asks k d).number ≢ n)
@@ -81,7 +79,7 @@ pub record Finds (n : ℕ) (asks : List Ask) (place : Option ℕ) : Type 0 where
   pub absent : IfNone place (without n asks ≡ asks)
 
 -- any ask
-some : Ask
+abbrev pub some : Ask
 some = record { number = 0; times = 0; last = 0 }
 
 -- a number is another if it is less before a place, and more from there on

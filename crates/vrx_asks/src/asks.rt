@@ -1,7 +1,6 @@
 //! The numbers that are missing.
 
-ghost use Rattle.std.specs.Prelude.{◌≡◌, ◌<◌, ◌==◌, true, [], length, remove, IfOk, IfSome, IfNone};
-ghost use Rattle.std.specs.Bool.{OnFalse};
+ghost use Rattle.std.specs.Prelude.{◌≡◌, ◌<◌, ◌≤◌, ◌==◌, true, [], length, drop, remove, IfOk, IfSome, IfNone};
 ghost use Rattle.vrx_asks.specs.Asks.{are_below, asked_numbers, asks_left, beyond, given_up_numbers, is_near, with_missing, without};
 ghost use Rattle.vrx_asks.specs.IsAsks.{IsAsks, rises};
 
@@ -77,12 +76,16 @@ impl Asks {
         }
     }
 
-    /// The numbers up to one aren't missing any more. If none of them is, only the first is looked at.
+    /// The numbers up to one aren't missing any more. Mostly it is the first alone that leaves, if one does.
     pub fn passed(&mut self, n: u64)
         ensures passed { self.new ≡ beyond n self.old }
     {
-        if begins_up_to(self.asks.as_slice(), n) {
-            self.asks.retain(|ask| n < ask.number);
+        match count_up_to(self.asks.as_slice(), n) {
+            0 => {}
+            1 => {
+                self.asks.remove(0);
+            }
+            _ => self.asks.retain(|ask| n < ask.number),
         }
     }
 
@@ -115,13 +118,20 @@ fn place_of(asks: &[Ask], n: u64) -> Option<usize>
     asks.binary_search_by_key(&n, |ask| ask.number).ok()
 }
 
-/// Whether the first number isn't above n. If it is, all are.
-fn begins_up_to(asks: &[Ask], n: u64) -> bool
+/// How many numbers aren't above n. They stand first.
+fn count_up_to(asks: &[Ask], n: u64) -> usize
     requires rise { rises asks.now ≡ true }
-    ensures kept { OnFalse result (beyond n asks.now ≡ asks.now) }
+    ensures within { result ≤ length asks.now }
+    ensures rest { drop result asks.now ≡ beyond n asks.now }
 {
-    match asks.first() {
-        Some(first) => first.number <= n,
-        None => false,
+    match asks {
+        [] => 0,
+        [first, rest @ ..] => {
+            if n < first.number {
+                0
+            } else {
+                1 + count_up_to(rest, n)
+            }
+        }
     }
 }
