@@ -20,8 +20,6 @@ mod reply;
 mod requests;
 mod settings;
 mod settings_fault;
-#[cfg(test)]
-mod tests;
 mod text;
 mod verdict;
 

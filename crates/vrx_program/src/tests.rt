@@ -1,11 +1,9 @@
-//! What no capture of `examples` can show: reads and writes that fail or move one octet, words and statuses, and the
-//! engine called from outside. And a packet that is lost. Expected values were worked out by hand.
+//! What no capture of `examples` can show: reads and writes that fail or move one octet, and words and statuses. And a
+//! packet that is lost. Expected values were worked out by hand.
 
-mod engine;
 mod faults;
 mod loss;
 mod usage;
-mod using;
 
 use crate::{Status, run};
 use std::alloc::Global;

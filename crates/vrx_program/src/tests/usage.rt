@@ -9,7 +9,7 @@ use vrx_io::{SureSink, SureSource};
 fn other_words_read_and_write_nothing(rt: HostRuntime) -> Result<(), Fail> {
     let mut source = source_of(rt.alloc(), HEAD.as_bytes(), SURE)?;
     let mut sink = sink_of(rt.alloc(), SURE)?;
-    let others: [&[&str]; 11] = [
+    let others: [&[&str]; 16] = [
         &[],
         &[""],
         &["live"],
@@ -21,6 +21,11 @@ fn other_words_read_and_write_nothing(rt: HostRuntime) -> Result<(), Fail> {
         &["replay", "inspect"],
         &["inspect", "replay"],
         &["inspect", ""],
+        &["drill"],
+        &["drill", "7", "0"],
+        &["drill", "7", "10001"],
+        &["drill", "07", "1"],
+        &["drill", "18446744073709551616", "1"],
     ];
     for other in others {
         let words = words_of(rt.alloc(), other)?;
@@ -32,6 +37,19 @@ fn other_words_read_and_write_nothing(rt: HostRuntime) -> Result<(), Fail> {
     let words = words_of(rt.alloc(), &["replay"])?;
     let status = run(rt.alloc(), words.as_slice(), &mut source, &mut sink);
     assert_eq!(rt; status, Status::Done);
+    Ok(())
+}
+
+#[test]
+fn a_drill_writes_its_summary(rt: HostRuntime) -> Result<(), Fail> {
+    let mut source = source_of(rt.alloc(), HEAD.as_bytes(), SURE)?;
+    let mut sink = sink_of(rt.alloc(), SURE)?;
+    let words = words_of(rt.alloc(), &["drill", "1", "1"])?;
+    let status = run(rt.alloc(), words.as_slice(), &mut source, &mut sink);
+    assert_eq!(rt; status, Status::Done);
+    let text =
+        "drill 1 1\ndatagrams 11\ntaken 10\nrepaired 1\nnacks 1\nplis 0\nframes 1\noctets 9574\n";
+    assert_eq!(rt; sink.written(), text.as_bytes());
     Ok(())
 }
 

@@ -4,6 +4,7 @@ use std::alloc::Global;
 use std::test::Fail;
 use vrx_core::NewFault::{BadInterval, BadType, RedMissing, SameSsrc, SameType};
 use vrx_core::{Engine, MOST_EVENTS, NewFault, Pulled, Reason, Red, Rtx, Settings, What};
+use vrx_rtcp::Feedback;
 use vrx_vp8::Vp8;
 
 const SETTINGS: Settings = Settings {
@@ -39,43 +40,104 @@ fn is_the_keyframe(pulled: &Pulled) -> bool {
     }
 }
 
+/// An event with its moment, what it gives, and what the clock says after it.
+#[derive(Clone, Copy)]
+enum Row {
+    /// A datagram, and its answer. Nothing is repaired, and nothing is sent.
+    Sent(u64, &'static [u8], What, u64),
+    /// A tick, at which nothing is sent.
+    Tick(u64, u64),
+    /// A pull, and whether it gives the keyframe.
+    Pull(u64, bool, u64),
+}
+
+use Row::{Pull, Sent, Tick};
+
 // Moments may go back, and the clock doesn't. Nothing is missing, and a keyframe completed: the ticks ask for nothing.
+// No capture has a datagram without octets.
+const ROWS: [Row; 9] = [
+    Sent(3, KEYFRAME, What::Media(65_537), 3),
+    Sent(7, &[], What::Dropped(Reason::NotRtp), 7),
+    Sent(5, REPORT, What::Rtcp, 7),
+    Sent(6, KEYFRAME, What::Dropped(Reason::Repeat), 7),
+    Tick(9, 9),
+    Tick(5, 9),
+    Tick(10, 10),
+    Pull(1, true, 10),
+    Pull(12, false, 12),
+];
+
+/// Whether there is something to send.
+fn is_sent(feedback: &Feedback) -> bool {
+    feedback.nack.is_some() || feedback.pli.is_some()
+}
+
+/// Whether a datagram is answered so, and nothing is repaired or sent.
+fn is_taken(
+    engine: &mut Engine<Vp8>,
+    moment: u64,
+    octets: &[u8],
+    want: What,
+) -> Result<bool, Fail> {
+    if engine.events() >= MOST_EVENTS {
+        return Err("no event is left")?;
+    }
+    let handled = engine.datagram(moment, octets)?;
+    let is_quiet = handled.repaired.as_slice().len() == 0 && !is_sent(&handled.feedback);
+    Ok(is_quiet && handled.what == want)
+}
+
+/// Whether a tick sends nothing.
+fn is_quiet(engine: &mut Engine<Vp8>, moment: u64) -> Result<bool, Fail> {
+    if engine.events() >= MOST_EVENTS {
+        return Err("no event is left")?;
+    }
+    Ok(!is_sent(&engine.tick(moment)))
+}
+
+/// Whether a pull gives the keyframe.
+fn gives_the_keyframe(engine: &mut Engine<Vp8>, moment: u64) -> Result<bool, Fail> {
+    if engine.events() >= MOST_EVENTS {
+        return Err("no event is left")?;
+    }
+    Ok(is_the_keyframe(&engine.pull(moment)?))
+}
+
+/// Whether the engine does what a row says.
+fn follows(engine: &mut Engine<Vp8>, row: Row) -> Result<bool, Fail> {
+    match row {
+        Sent(moment, octets, want, now) => {
+            Ok(is_taken(engine, moment, octets, want)? && engine.now() == now)
+        }
+        Tick(moment, now) => Ok(is_quiet(engine, moment)? && engine.now() == now),
+        Pull(moment, want, now) => {
+            Ok(gives_the_keyframe(engine, moment)? == want && engine.now() == now)
+        }
+    }
+}
+
+/// How many rows the engine follows, from the first on.
+fn followed(engine: &mut Engine<Vp8>, rows: &[Row]) -> Result<u32, Fail> {
+    let mut count: u32 = 0;
+    for row in rows {
+        if !follows(engine, *row)? {
+            return Ok(count);
+        }
+        count = count.saturating_add(1);
+    }
+    Ok(count)
+}
+
+#[test]
+fn an_engine_may_go_to_another_thread() {
+    is_send::<Engine<Vp8>>();
+}
+
 #[test]
 fn an_engine_counts_events_and_keeps_the_clock(rt: HostRuntime) -> Result<(), Fail> {
-    is_send::<Engine<Vp8>>();
     let mut engine = Engine::<Vp8>::new(rt.alloc(), SETTINGS)?;
-    for (octets, moment, want, now) in [
-        (KEYFRAME, 3, What::Media(65_537), 3),
-        // no capture has a datagram without octets
-        (&[], 7, What::Dropped(Reason::NotRtp), 7),
-        (REPORT, 5, What::Rtcp, 7),
-        (KEYFRAME, 6, What::Dropped(Reason::Repeat), 7),
-    ] {
-        if engine.events() >= MOST_EVENTS {
-            return Err("no event is left")?;
-        }
-        let handled = engine.datagram(moment, octets)?;
-        assert_eq!(rt; handled.what, want);
-        assert_eq!(rt; handled.repaired.as_slice().len(), 0);
-        assert!(rt; handled.feedback.nack.is_none() && handled.feedback.pli.is_none());
-        assert_eq!(rt; engine.now(), now);
-    }
-    for (moment, now) in [(9, 9), (5, 9), (10, 10)] {
-        if engine.events() >= MOST_EVENTS {
-            return Err("no event is left")?;
-        }
-        let feedback = engine.tick(moment);
-        assert!(rt; feedback.nack.is_none() && feedback.pli.is_none());
-        assert_eq!(rt; engine.now(), now);
-    }
-    for (moment, ready, now) in [(1, true, 10), (12, false, 12)] {
-        if engine.events() >= MOST_EVENTS {
-            return Err("no event is left")?;
-        }
-        let pulled = engine.pull(moment)?;
-        assert_eq!(rt; is_the_keyframe(&pulled), ready);
-        assert_eq!(rt; engine.now(), now);
-    }
+    let rows: &[Row] = &ROWS;
+    assert_eq!(rt; followed(&mut engine, rows)?, 9);
     assert_eq!(rt; engine.events(), 9);
     Ok(())
 }

@@ -1,15 +1,15 @@
-// What no clause says: there is memory for a call, frames come out of it, and the engine may go to another thread. The
-// codec's payloads don't say where a frame begins: the packet before decides. The values were worked out by hand.
+//! The engine over a codec whose payloads don't say where a frame begins: the packet before decides. The values were
+//! worked out by hand.
 
 ghost use Rattle.std.specs.Prelude.{◌+◌, ◌==◌, if◌then◌else◌, nat_lt, refl, length, None, Ok, Err};
 ghost use Rattle.std.proofs.Common.{rules};
 ghost use Rattle.vrx_codec.specs.Joining.{beginning, join_from};
 ghost use Rattle.vrx_codec.specs.declared.part.Start.TheVariants.{ByNeighbour};
 
-use super::*;
 use std::alloc::Global;
 use std::test::Fail;
 use vrx_codec::{Codec, Join, JoinFault, Part, PartFault, Start};
+use vrx_core::{Engine, EventBytes, FrameBytes, MOST_EVENTS, Pulled, Settings};
 
 // Each payload is a part, and its own body. It says a keyframe if it has two octets or more, and doesn't join if it
 // has three.
@@ -82,31 +82,52 @@ const SETTINGS: Settings = Settings {
 
 // A packet's wire number, whether it has the marker, and its payload; or a pull, with the first and the last number of
 // the frame that it gives, if it gives one.
-#[derive(Drop)]
-enum Row<'a> {
-    Sent(u16, bool, &'a [u8]),
+#[derive(Clone, Copy)]
+enum Row {
+    Sent(u16, bool, &'static [u8]),
     Pull(Option<(u64, u64)>),
 }
 
-fn take(
-    alloc: Global,
-    engine: &mut Engine<Silent>,
-    wire: u16,
-    marker: bool,
-    payload: &[u8],
-) -> Result<What, Fail> {
+use Row::{Pull, Sent};
+
+const ROWS: [Row; 12] = [
+    Pull(None),
+    Sent(1, true, &[1, 1]),
+    // nothing is known of what came before the first
+    Pull(None),
+    // a keyframe of one packet, after the end of a frame
+    Sent(2, true, &[2, 2]),
+    Pull(Some((65_538, 65_538))),
+    // two packets, none of which says a keyframe, after an empty one that isn't there yet
+    Sent(5, true, &[8]),
+    Sent(4, false, &[7]),
+    Pull(None),
+    Sent(3, false, &[]),
+    Pull(Some((65_540, 65_541))),
+    // no frame comes twice
+    Sent(5, true, &[8]),
+    Pull(None),
+];
+
+/// The octets of a packet.
+fn octets_of(alloc: Global, wire: u16, marker: bool, payload: &[u8]) -> Result<Vec<u8>, Fail> {
+    let [high, low] = wire.to_be_bytes();
+    let second = if marker { 0xe0 } else { 0x60 };
+    let mut bytes = [0x80, second, high, low, 0, 0, 0, 0, 0, 0, 0, 0x0a].to_vec(alloc)?;
+    bytes.extend_from_slice(payload)?;
+    Ok(bytes)
+}
+
+/// Hands a packet to the engine.
+fn take(engine: &mut Engine<Silent>, bytes: &[u8]) -> Result<(), Fail> {
     if engine.events() >= MOST_EVENTS {
         return Err("no event is left")?;
     }
-    let [high, low] = wire.to_be_bytes();
-    let second = if marker { 0xe0 } else { 0x60 };
-    let header: [u8; 12] = [0x80, second, high, low, 0, 0, 0, 0, 0, 0, 0, 0x0a];
-    let mut bytes = Vec::new(alloc);
-    bytes.extend_from_slice(&header)?;
-    bytes.extend_from_slice(payload)?;
-    Ok(engine.datagram(0, &bytes)?.what)
+    engine.datagram(0, bytes)?;
+    Ok(())
 }
 
+/// The numbers of the frame that a pull gives, if it gives one.
 fn pull(engine: &mut Engine<Silent>) -> Result<Option<(u64, u64)>, Fail> {
     if engine.events() >= MOST_EVENTS {
         return Err("no event is left")?;
@@ -117,43 +138,45 @@ fn pull(engine: &mut Engine<Silent>) -> Result<Option<(u64, u64)>, Fail> {
     }
 }
 
-#[test]
-fn frames_come_out(rt: HostRuntime) -> Result<(), Fail> {
-    let rows: [Row<'_>; 12] = [
-        Row::Pull(None),
-        Row::Sent(1, true, &[1, 1]),
-        // nothing is known of what came before the first
-        Row::Pull(None),
-        // a keyframe of one packet, after the end of a frame
-        Row::Sent(2, true, &[2, 2]),
-        Row::Pull(Some((65_538, 65_538))),
-        // two packets, none of which says a keyframe, after an empty one that isn't there yet
-        Row::Sent(5, true, &[8]),
-        Row::Sent(4, false, &[7]),
-        Row::Pull(None),
-        Row::Sent(3, false, &[]),
-        Row::Pull(Some((65_540, 65_541))),
-        // no frame comes twice
-        Row::Sent(5, true, &[8]),
-        Row::Pull(None),
-    ];
-    let mut engine = Engine::<Silent>::new(rt.alloc(), SETTINGS)?;
-    for row in rows {
-        match row {
-            Row::Sent(wire, marker, payload) => {
-                take(rt.alloc(), &mut engine, wire, marker, payload)?;
-            }
-            Row::Pull(want) => {
-                assert_eq!(rt; pull(&mut engine)?, want);
-            }
+/// Whether the engine does what a row says.
+fn follows(alloc: Global, engine: &mut Engine<Silent>, row: Row) -> Result<bool, Fail> {
+    match row {
+        Sent(wire, marker, payload) => {
+            let bytes = octets_of(alloc, wire, marker, payload)?;
+            take(engine, bytes.as_slice())?;
+            Ok(true)
         }
+        Pull(want) => Ok(pull(engine)? == want),
     }
+}
+
+/// How many rows the engine follows, from the first on.
+fn followed(alloc: Global, engine: &mut Engine<Silent>, rows: &[Row]) -> Result<usize, Fail> {
+    let mut count = 0;
+    for row in rows {
+        if !follows(alloc, engine, *row)? {
+            return Ok(count);
+        }
+        count = count.saturating_add(1);
+    }
+    Ok(count)
+}
+
+/// How far the clock and the count of events are after a tick.
+fn ticked(engine: &mut Engine<Silent>, moment: u64) -> Result<(u64, u32), Fail> {
     if engine.events() >= MOST_EVENTS {
         return Err("no event is left")?;
     }
-    let _feedback = engine.tick(7);
-    assert_eq!(rt; engine.now(), 7);
-    assert_eq!(rt; engine.events(), 13);
+    engine.tick(moment);
+    Ok((engine.now(), engine.events()))
+}
+
+#[test]
+fn frames_come_out(rt: HostRuntime) -> Result<(), Fail> {
+    let mut engine = Engine::<Silent>::new(rt.alloc(), SETTINGS)?;
+    let rows: &[Row] = &ROWS;
+    assert_eq!(rt; followed(rt.alloc(), &mut engine, rows)?, 12);
+    assert_eq!(rt; ticked(&mut engine, 7)?, (7, 13));
     Ok(())
 }
 
