@@ -14,6 +14,7 @@ pub mod TellLemmas
 pub mod ToldLemmas
 pub mod PlaceLemmas
 pub mod TookLemmas
+pub mod OrderLemmas
 pub mod LostLemmas
 pub mod HonestTakenLemmas
 pub mod FrameLemmas

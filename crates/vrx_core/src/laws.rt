@@ -7,7 +7,7 @@ ghost use Rattle.vrx_core.specs.honest.HonestTaken.{HonestTakenHolds};
 use vrx_fec::one_payload;
 use vrx_frames::runs_are;
 use vrx_num::{extended_is_near, picture_is_near};
-use vrx_repair::true_repairs;
+use vrx_repair::{any_order, repairs_are, true_repairs};
 use vrx_rtp::one_reading;
 use vrx_wrap::one_original;
 
@@ -44,7 +44,8 @@ pub fn honest_call()
 /// below the greatest, each under its number and as it was sent: a media packet octet for octet, without padding, a FEC
 /// packet by its payload, and an empty packet as empty. Nothing else is available. The newest number is that of the
 /// greatest packet taken. Each place told is that of the frame of its packet: its picture is the sender's and one
-/// constant, and on the wire it is as it was sent.
+/// constant, and on the wire it is as it was sent. In whatever order lost packets are rebuilt from FEC packets, until no
+/// more can be, the same packets are available.
 pub fn honest_taken()
     ensures taken { HonestTakenHolds }
 {
@@ -55,6 +56,8 @@ pub fn honest_taken()
     one_original();
     one_payload();
     true_repairs();
+    any_order();
+    repairs_are();
 }
 
 /// The runs of an honest call, after each of its events. Each run that stands is a frame that was sent: it has the

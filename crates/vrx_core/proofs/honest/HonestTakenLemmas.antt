@@ -9,6 +9,8 @@ use Rattle.vrx_window.specs.Content.{Content}
 use Rattle.vrx_window.specs.Window.{Contents, at, is_available, is_too_old, newest_with, would_of}
 use Rattle.vrx_window.specs.declared.placing.Placing.TheVariants as placings
 use Rattle.vrx_frames.specs.Run.{Packets}
+use Rattle.vrx_repair.specs.Laws.{RepairsAre}
+use Rattle.vrx_repair.specs.Order.{AnyOrder}
 use Rattle.vrx_repair.specs.Truth.{TrueRepairs}
 use Rattle.vrx_core.specs.machine.SettingsFault.{fault_of}
 use Rattle.vrx_core.specs.machine.Verdict.{verdict}
@@ -34,6 +36,7 @@ use Rattle.vrx_core.proofs.honest.NumberLemmas.{taken-number, wire_below, is_num
 use Rattle.vrx_core.proofs.honest.PartLemmas.{some_from}
 use Rattle.vrx_core.proofs.honest.KeptLemmas.{AreKept, kept-there}
 use Rattle.vrx_core.proofs.honest.KeepsLemmas.{Came, Keeps, greatest-upto, near-number, number-near, one-number, one-place}
+use Rattle.vrx_core.proofs.honest.OrderLemmas.{any-order}
 use Rattle.vrx_core.proofs.honest.PlaceLemmas.{tells-rightly}
 use Rattle.vrx_core.proofs.honest.WireLemmas.{FormLaws, Brings, brings}
 use Rattle.vrx_core.proofs.honest.TookLemmas.{Took, opening-took, brought-took, aside-took, tick-took, pull-took}
@@ -300,43 +303,46 @@ module _ (settings : Settings) (codec : Meaning) (sender : Sender) (h : List Eve
         pull-took sender meant picture truth settings codec honest (snapshots settings codec h)
         (packets_taken settings codec h origins) t moment (next_run (latest (snapshots settings codec h)))
 
-    -- a datagram of the sender is taken and answered rightly
-    takes_packet : (moment : ℕ) (octets : List ℕ) (i : ℕ) →
-        IsDelivery settings codec sender h origins (Datagram moment octets) (FromSender i) →
-        TakesPacket settings codec sender h origins moment octets i
-    unfolding reply
-    takes_packet moment octets i delivery =
-        let window : Contents Content = (latest (snapshots settings codec h)).window in
-        let js : List ℕ = packets_taken settings codec h origins in
-        let b : Brings settings codec sender i octets =
-        brings laws settings codec good sender honest i octets delivery.0 in
-        let rep : ℕ → Type 0 = IsRepaired (snapshots settings codec h) in
-        let lost : ℕ → Bool = is_lost (snapshots settings codec h) in
-        let match : Matches window lost = matches settings codec h in
-        let exact : (is_ok (verdict settings codec window octets) ≡ true) ↔ ToTake sender rep lost i js =
-        rightly-packets_taken meant settings codec sender window rep lost match i octets b js t.here.newest t.here.keeps
-        delivery.1 in
-        record {
-          exactly = (λ h'. is_to_take i (exact.0 h'), λ to. exact.1 (to_take i to));
-          answer = λ h'.
-              let p = brought-answer meant settings codec sender window rep lost match i octets b js t.here.newest
-              delivery.1 h' in (
-                p.0,
-                p.1,
-                some_from (λ packet.
-                    what_in (reply settings codec h (Datagram moment octets)) ≡ Some
-                    (answer_taken p.0 (content_sent packet))) (slice_get sender.packets i) b.packet b.sent
-                    (ap Some p.2),
-              );
-        }
+    module _ (any : AnyOrder) (are : RepairsAre) where
+      -- a datagram of the sender is taken and answered rightly
+      takes_packet : (moment : ℕ) (octets : List ℕ) (i : ℕ) →
+          IsDelivery settings codec sender h origins (Datagram moment octets) (FromSender i) →
+          TakesPacket settings codec sender h origins moment octets i
+      unfolding reply
+      takes_packet moment octets i delivery =
+          let window : Contents Content = (latest (snapshots settings codec h)).window in
+          let js : List ℕ = packets_taken settings codec h origins in
+          let b : Brings settings codec sender i octets =
+          brings laws settings codec good sender honest i octets delivery.0 in
+          let rep : ℕ → Type 0 = IsRepaired (snapshots settings codec h) in
+          let lost : ℕ → Bool = is_lost (snapshots settings codec h) in
+          let match : Matches window lost = matches settings codec h in
+          let exact : (is_ok (verdict settings codec window octets) ≡ true) ↔ ToTake sender rep lost i js =
+          rightly-packets_taken meant settings codec sender window rep lost match i octets b js t.here.newest t.here.keeps
+          delivery.1 in
+          record {
+            exactly = (λ h'. is_to_take i (exact.0 h'), λ to. exact.1 (to_take i to));
+            answer = λ h'.
+                let p = brought-answer meant settings codec sender window rep lost match i octets b js t.here.newest
+                delivery.1 h' in (
+                  p.0,
+                  p.1,
+                  some_from (λ packet.
+                      what_in (reply settings codec h (Datagram moment octets)) ≡ Some
+                      (answer_taken p.0 (content_sent packet))) (slice_get sender.packets i) b.packet b.sent
+                      (ap Some p.2),
+                );
+            any_order = any-order truth any are settings codec sender honest meant picture h origins t moment octets i b
+                delivery.1;
+          }
 
-    -- an event takes what is to be taken
-    rightly_step : (e : Event) (o : Origin) → IsDelivery settings codec sender h origins e o →
-        IsTakenRightly settings codec sender h origins e o
-    rightly_step (Datagram moment octets) (FromSender i) delivery = takes_packet moment octets i delivery
-    rightly_step (Datagram moment octets) Elsewhere delivery = tt
-    rightly_step (Tick moment) o delivery = tt
-    rightly_step (Pull moment) o delivery = tt
+      -- an event takes what is to be taken
+      rightly_step : (e : Event) (o : Origin) → IsDelivery settings codec sender h origins e o →
+          IsTakenRightly settings codec sender h origins e o
+      rightly_step (Datagram moment octets) (FromSender i) delivery = takes_packet moment octets i delivery
+      rightly_step (Datagram moment octets) Elsewhere delivery = tt
+      rightly_step (Tick moment) o delivery = tt
+      rightly_step (Pull moment) o delivery = tt
 
 -- before the first event
 pub first_took : (settings : Settings) (codec : Meaning) (sender : Sender) →
@@ -344,7 +350,8 @@ pub first_took : (settings : Settings) (codec : Meaning) (sender : Sender) →
 unfolding snapshots packets_taken
 first_took settings codec sender = opening-took sender
 
-module _ (meant : GivesMeant) (picture : GivesPicture) (laws : FormLaws) (truth : TrueRepairs) (settings : Settings)
+module _ (meant : GivesMeant) (picture : GivesPicture) (laws : FormLaws) (truth : TrueRepairs) (any : AnyOrder)
+    (are : RepairsAre) (settings : Settings)
     (codec : Meaning) (sender : Sender) (good : fault_of settings ≡ None)
     (honest : HonestSender settings codec sender) where
   -- the rest of an honest call takes and keeps rightly
@@ -357,14 +364,14 @@ module _ (meant : GivesMeant) (picture : GivesPicture) (laws : FormLaws) (truth 
   takes_from (e ∷ es) h origins [] t network = absurd network
   takes_from (e ∷ es) h origins (o ∷ os) t network = (
     kept_rightly settings codec sender h origins honest.layers t,
-    rightly_step settings codec sender h origins meant picture laws truth good honest t e o network.0,
+    rightly_step settings codec sender h origins meant picture laws truth good honest t any are e o network.0,
     takes_from es (e ∷ h) (o ∷ origins) os
         (took_step settings codec sender h origins meant picture laws truth good honest t e o network.0 network.1)
         network.2,
   )
 
 -- every honest call takes and keeps rightly
-pub honest_taken : GivesMeant → GivesPicture → FormLaws → TrueRepairs → HonestTakenHolds
-honest_taken meant picture laws truth settings codec sender events origins good honest network =
-    takes_from meant picture laws truth settings codec sender good honest events [] [] origins
+pub honest_taken : GivesMeant → GivesPicture → FormLaws → TrueRepairs → AnyOrder → RepairsAre → HonestTakenHolds
+honest_taken meant picture laws truth any are settings codec sender events origins good honest network =
+    takes_from meant picture laws truth any are settings codec sender good honest events [] [] origins
     (first_took settings codec sender) network

@@ -36,7 +36,7 @@ use Rattle.vrx_core.proofs.honest.KeptLemmas.{IsKept, AreKept, kept-there, put-k
 use Rattle.vrx_core.proofs.honest.PartLemmas.{IsMediaSent, IsSent, packet_sent, some_from, some_there}
 
 -- the first that a function gives is what it gives of some number
-first-some : {X : Type 0} (f : ℕ → Option X) (ns : List ℕ) (x : X) → first_of f ns ≡ Some x →
+pub first-some : {X : Type 0} (f : ℕ → Option X) (ns : List ℕ) (x : X) → first_of f ns ≡ Some x →
     (m : ℕ) × (f m ≡ Some x)
 first-some f [] x is = absurd (none-some x is)
 first-some {X = X} f (n ∷ ns) x is = by_value (f n) refl is (first-some f ns x) where

@@ -153,7 +153,7 @@ module _ (sender : Sender) where
   pull_repaired codec past moment (Some run) = refl
 
   -- available numbers aren't less than half of the space
-  far-from : (i : ℕ) (js : List ℕ) (rep : ℕ → Type 0) (newest : Option ℕ) (packets : Packets) →
+  pub far-from : (i : ℕ) (js : List ℕ) (rep : ℕ → Type 0) (newest : Option ℕ) (packets : Packets) →
       IsNewestOf sender (i ∷ js) newest → Keeps sender (i ∷ js) rep packets → (n : ℕ) →
       is_available n packets ≡ true → HALF_SPACE ≤ n
   far-from i js rep newest packets is keeps n h =
@@ -206,6 +206,30 @@ module _ (sender : Sender) where
           near = number-near sender (i ∷ js) k.place (greatest (i ∷ js)) repair.0 m WINDOW k.numbered newest order.0;
         }
 
+    -- the window in which a sender's packet is placed that is near those taken
+    pub placed-now : (i : ℕ) (octets : List ℕ) → Brings settings codec sender i octets → IsNear i js →
+        (n : ℕ) (content : Content) → verdict settings codec (latest past).window octets ≡ Ok (n, content) →
+        TookNow (after_placing n content (latest past).window) (i ∷ js) (IsRepaired past)
+    placed-now i octets b near n content is =
+        let window : Contents Content = (latest past).window in
+        let took : (extended_number window.newest (wire_of sender i) ≡ Some n) × (content ≡ content_sent b.packet)
+        × (would_of window n ≡ placings.Fresh) =
+        verdict_taken settings codec window octets
+        (record { wire = wire_of sender i; content = content_sent b.packet }) n content b.is is in
+        let numbered : IsNumber sender (i ∷ js) i n =
+        taken-number meant sender js window.newest i n t.here.newest near took.0 in
+        let fresh : IsNewestOf sender (i ∷ js) (Some (newest_with window.newest n)) =
+        taken-newest meant sender js window.newest i n t.here.newest near took.0 in
+        record {
+          newest = fresh;
+          kept = placed-kept sender (i ∷ js) (newest_with window.newest n) n content window.packets
+              (taken-kept i n b.packet content b.sent took.1 numbered)
+              (grown-kept sender js i window.packets t.here.kept);
+          keeps = placed-keeps sender js (IsRepaired past) window.packets t.here.keeps i (newest_with window.newest n) n
+              content numbered (newest-number sender i js (newest_with window.newest n) fresh)
+              (open-newest window.newest n (fresh-is window n took.2).young);
+        }
+
     -- a sender's datagram that is near those taken, whatever the verdict
     content_sent_verdict : (i : ℕ) (octets : List ℕ) → Brings settings codec sender i octets → IsNear i js →
         (r : Result (ℕ × Content) NotTaken) → verdict settings codec (latest past).window octets ≡ r →
@@ -221,35 +245,27 @@ module _ (sender : Sender) where
         (record { wire = wire_of sender i; content = content_sent b.packet }) n content b.is is in
         let numbered : IsNumber sender (i ∷ js) i n =
         taken-number meant sender js window.newest i n t.here.newest near took.0 in
-        let fresh : IsNewestOf sender (i ∷ js) (Some (newest_with window.newest n)) =
-        taken-newest meant sender js window.newest i n t.here.newest near took.0 in
         let entry : IsKept sender (i ∷ js) (n, content) =
         taken-kept i n b.packet content b.sent took.1 numbered in
         let placed : Contents Content = after_placing n content window in
-        let placed_kept : AreKept sender (i ∷ js) placed.packets =
-        placed-kept sender (i ∷ js) (newest_with window.newest n) n content window.packets entry
-        (grown-kept sender js i window.packets t.here.kept) in
-        let placed_keeps : Keeps sender (i ∷ js) (IsRepaired past) placed.packets =
-        placed-keeps sender js (IsRepaired past) window.packets t.here.keeps i (newest_with window.newest n) n content
-        numbered (newest-number sender i js (newest_with window.newest n) fresh)
-        (open-newest window.newest n (fresh-is window n took.2).young) in
+        let now : TookNow placed (i ∷ js) (IsRepaired past) = placed-now i octets b near n content is in
         let made : List (ℕ × Content) = repairs_in source placed in
         let made_kept : AreKept sender (i ∷ js) made =
         window-kept settings codec sender honest (i ∷ js) truth placed
-        (far-from i js (IsRepaired past) placed.newest placed.packets fresh placed_keeps) placed_kept in
+        (far-from i js (IsRepaired past) placed.newest placed.packets now.newest now.keeps) now.kept in
         let was_upto : (m : ℕ) → IsRepaired past m → (k : ℕ) × IsNumber sender js k m =
         λ m repaired. let u = t.here.keeps.upto m repaired in (u.0, u.1) in
         let kept : AreKept sender (i ∷ js) (with_repairs made placed.packets) =
-        repaired-kept sender (i ∷ js) made placed.packets made_kept placed_kept in
+        repaired-kept sender (i ∷ js) made placed.packets made_kept now.kept in
         record {
           here = record {
-            newest = fresh;
+            newest = now.newest;
             kept = kept;
             keeps = made-keeps sender (i ∷ js) (IsRepaired past) placed.packets
-                (with_repaired made placed).packets placed_keeps made (made-from source placed)
+                (with_repaired made placed).packets now.keeps made (made-from source placed)
                 (made-stays source placed) (made-here source placed)
                 (made-at i (newest_with window.newest n) placed made_kept
-                (newest-number sender i js (newest_with window.newest n) fresh) refl);
+                (newest-number sender i js (newest_with window.newest n) now.newest) refl);
           };
           were = (kept, were_grown i js past t.were);
           told = taken-told settings codec sender honest picture i js (IsRepaired past) n content made numbered

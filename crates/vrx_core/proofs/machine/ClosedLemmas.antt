@@ -89,7 +89,7 @@ module _ (source : Source) (newest : Option ℕ) (dead more : List ℕ)
     by_value (Some repair) is = absurd (none-some repair (sym (closed m) ∙ step-still m repair is))
 
 -- packets within a window are so once a packet is placed
-within-placed : (window : Contents Content) (n : ℕ) (content : Content) → IsFresh window n →
+pub within-placed : (window : Contents Content) (n : ℕ) (content : Content) → IsFresh window n →
     is_sorted nat_cmp window.packets ≡ true →
     IsWithin (Some (newest_with window.newest n)) (after_placing n content window).packets
 within-placed window n content fresh rises = record { rise = rise; inside = inside } where
@@ -109,7 +109,7 @@ within-placed window n content fresh rises = record { rise = rise; inside = insi
       ]
 
 -- the packets stand in the order of their numbers, after each history
-packets-rise : (settings : Settings) (codec : Meaning) (h : List Event) →
+pub packets-rise : (settings : Settings) (codec : Meaning) (h : List Event) →
     is_sorted nat_cmp (latest (snapshots settings codec h)).window.packets ≡ true
 unfolding snapshots
 packets-rise settings codec [] = refl
@@ -134,12 +134,12 @@ packets-rise settings codec (Pull moment ∷ h) =
     (sym (pull_window codec past moment (next_run (latest past)))) (packets-rise settings codec h)
 
 -- no step is left in a window
-abbrev IsDone : Source → Contents Content → Type 0
+abbrev pub IsDone : Source → Contents Content → Type 0
 IsDone source window = IsClosed source window.newest window.dead window.packets
 
 module _ (are : RepairsAre) (settings : Settings) (codec : Meaning) where
   -- so it is once repairs were made
-  done-made : (window : Contents Content) → IsWithin window.newest window.packets →
+  pub done-made : (window : Contents Content) → IsWithin window.newest window.packets →
       IsDone (source_in settings codec) (with_repaired (repairs_in (source_in settings codec) window) window)
   unfolding repairs_in
   done-made window within =

@@ -2,16 +2,20 @@
 -- exactly if its packet is in reach, and was neither taken before nor repaired nor given up: the receiver doesn't wait
 -- any longer for a packet that it gave up, and drops it if it comes. Its numbers and its pictures are the sender's, each
 -- and a constant.
-use Rattle.std.specs.Prelude.{◌≡◌, ℕ, ◌+◌, ◌<◌, ◌≤◌, ◌↔◌, true, List, [], ◌∷◌, slice_get, Contains, Option, Some, None, IsSomeAnd}
+use Rattle.std.specs.Prelude.{◌≡◌, ℕ, ◌+◌, ◌<◌, ◌≤◌, ◌↔◌, true, List, [], ◌∷◌, slice_get, Contains, Option, Some, None, Ok, IsSomeAnd}
 use Rattle.vrx_codec.specs.Meaning.{Meaning}
 use Rattle.vrx_codec.specs.declared.run.Place.{Place}
 use Rattle.vrx_num.specs.declared.limits.TheConstants.{WINDOW, HALF_SPACE}
+use Rattle.vrx_window.specs.Content.{Content}
 use Rattle.vrx_window.specs.Sound.{on_wire}
-use Rattle.vrx_window.specs.Window.{at, is_available}
+use Rattle.vrx_window.specs.Window.{Contents, after_placing, at, is_available}
+use Rattle.vrx_repair.specs.Order.{AreAlike, AreSteps}
+use Rattle.vrx_repair.specs.Step.{IsClosed, with_repairs}
 use Rattle.vrx_core.specs.machine.SettingsFault.{fault_of}
 use Rattle.vrx_core.specs.machine.GivenUp.{is_lost}
-use Rattle.vrx_core.specs.machine.Machine.{answer_taken, latest, snapshots, reply, what_in}
+use Rattle.vrx_core.specs.machine.Machine.{answer_taken, latest, snapshots, source_in, reply, what_in}
 use Rattle.vrx_core.specs.machine.Told.{Told}
+use Rattle.vrx_core.specs.machine.Verdict.{verdict}
 use Rattle.vrx_core.specs.honest.Sender.{Sender}
 use Rattle.vrx_core.specs.honest.Layers.{layers_at}
 use Rattle.vrx_core.specs.honest.WireForm.{content_sent}
@@ -84,6 +88,20 @@ pub record KeepsRightly (settings : Settings) (codec : Meaning) (sender : Sender
   -- the places told are those of the sender's frames, their pictures and one constant
   pub told : TellsRightly sender (packets_taken settings codec h origins) (latest (snapshots settings codec h)).told
 
+-- The order of the repairs makes no difference: if a datagram is taken, and in the window in which its packet is placed
+-- step after step is made, whichever it is, until none is left (RFC 5109 9), then the same numbers are available, with
+-- the same contents, as after the datagram.
+abbrev pub RepairsInAnyOrder : Settings → Meaning → List Event → (moment : ℕ) → (octets : List ℕ) → Type 0
+RepairsInAnyOrder settings codec h moment octets =
+    (n : ℕ) (content : Content) →
+    verdict settings codec (latest (snapshots settings codec h)).window octets ≡ Ok (n, content) →
+    let placed : Contents Content = after_placing n content (latest (snapshots settings codec h)).window in
+    (made : List (ℕ × Content)) →
+    AreSteps (source_in settings codec) placed.newest placed.dead placed.packets made →
+    IsClosed (source_in settings codec) placed.newest placed.dead (with_repairs made placed.packets) →
+    AreAlike (with_repairs made placed.packets)
+    (latest (snapshots settings codec (Datagram moment octets ∷ h))).window.packets
+
 -- what a datagram that brings packet i of the sender meets after a history
 pub record TakesPacket (settings : Settings) (codec : Meaning) (sender : Sender) (h : List Event)
     (origins : List Origin) (moment : ℕ) (octets : List ℕ) (i : ℕ) : Type 0 where
@@ -96,6 +114,8 @@ pub record TakesPacket (settings : Settings) (codec : Meaning) (sender : Sender)
       × IsSomeAnd (slice_get sender.packets i)
       (λ packet. what_in (reply settings codec h (Datagram moment octets)) ≡ Some
       (answer_taken n (content_sent packet)))
+  -- and it is repaired what is repaired in any other order
+  pub any_order : RepairsInAnyOrder settings codec h moment octets
 
 -- each datagram of the sender is taken and answered rightly
 abbrev pub IsTakenRightly : Settings → Meaning → Sender → List Event → List Origin → Event → Origin → Type 0

@@ -10,5 +10,7 @@ returns c = record {
         again = c.one_original.ensures.again;
         payloads = c.one_payload.ensures.one;
       })
-      c.true_repairs.ensures.right;
+      c.true_repairs.ensures.right
+      c.any_order.ensures.any
+      c.repairs_are.ensures.repairs;
 }
