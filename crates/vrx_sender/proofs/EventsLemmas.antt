@@ -62,7 +62,7 @@ unfolding drawn_from
 few-drawn f zero g = tt
 few-drawn f (suc n) g = (few-fates f g, few-drawn (f + 1) n _)
 
-length-drawn : (f n : ℕ) (g : Lcg) → length (drawn_from f n g) ≡ n
+pub length-drawn : (f n : ℕ) (g : Lcg) → length (drawn_from f n g) ≡ n
 unfolding drawn_from
 length-drawn f zero g = refl
 length-drawn f (suc n) g = omega (arith, length-drawn (f + 1) n (drawn f g).1)

@@ -6,7 +6,8 @@
 //! ticks and pulls (`specs/Drill.antt`).
 //!
 //! A [`Drill`] gives the events of one frame after the other, in the memory of a few frames. [`drill_capture`] gives
-//! all of them as a capture, and [`drill_sender`] what was sent. [`honest_sender`] has the law that the sender is honest.
+//! all of them as a capture, and [`drill_sender`] what was sent. [`honest_sender`] has the law that the sender is
+//! honest, and [`honest_network`] the law that the network is, if there are at most [`MOST_HONEST_FRAMES`] frames.
 #![tactic(auto)]
 
 mod brought;
@@ -24,6 +25,6 @@ mod tests;
 
 pub use capture::{Capture, DrillEvents, drill_capture};
 pub use drill::{Drill, MOST_FRAMES};
-pub use laws::honest_sender;
+pub use laws::{MOST_HONEST_FRAMES, honest_network, honest_sender};
 pub use sender::{Sender, SentFrame, SentPacket, drill_sender};
 pub use settings::drill_settings;

@@ -1,14 +1,14 @@
 -- The temporal layers of a drill's frames, and what its frames refer to.
-use Rattle.std.proofs.Common.{◌≡◌, ◌≢◌, ◌⊎◌, ℕ, zero, suc, ◌+◌, ◌-◌, ◌*◌, ◌/◌, ◌%◌, ◌<◌, ◌≤◌, Bool, true, false, ◌||◌, All, List, [], ◌∷◌, length, Option, Some, None, slice_get, IfSome, IsSomeAnd, refl, ap, sym, ◌∙◌, subst, inl, inr, arith}
+use Rattle.std.proofs.Common.{◌≡◌, ◌≢◌, ℕ, zero, suc, ◌+◌, ◌-◌, ◌/◌, ◌%◌, ◌<◌, ◌≤◌, Bool, true, false, ◌||◌, All, List, [], ◌∷◌, length, Option, Some, None, slice_get, IfSome, IsSomeAnd, refl, ap, sym, ◌∙◌, subst, inl, inr, arith}
 use Rattle.std.specs.Prelude.{◌==◌, if◌then◌else◌}
 use Rattle.std.specs.Option.{option_and_then, option_map}
 use Rattle.std.proofs.lemmas.Bool.{cases_lt, eq-eqb, eqb-false, eqb-true, ne_eqb}
 use Rattle.std.proofs.lemmas.Bool.Decides.{eqb_tells}
 use Rattle.std.proofs.lemmas.List.Elements.{All-nil}
 use Rattle.vrx_codec.specs.declared.run.Place.{Place}
-use Rattle.vrx_core.specs.honest.Chain.{InChain, IsRuleReference, RefersBy, RefersTo}
-use Rattle.vrx_core.specs.honest.Layers.{HasTid, IsKey, IsLastOf, IsLastSinceKey, KeepsLayers, is_on_base, layers_at}
-use Rattle.vrx_core.specs.honest.Sender.{SentFrame, Sender}
+use Rattle.vrx_core.specs.honest.Chain.{InChain, RefersBy}
+use Rattle.vrx_core.specs.honest.Layers.{HasTid, IsKey, IsLastOf, KeepsLayers, is_on_base, layers_at}
+use Rattle.vrx_core.specs.honest.Sender.{SentFrame}
 use Rattle.vrx_sender.specs.Draws.{Drawn}
 use Rattle.vrx_sender.specs.Frames.{is_key, place, references, rests_on_base, sent_frame, tid}
 use Rattle.vrx_sender.specs.Packets.{frames_from, sender_of}

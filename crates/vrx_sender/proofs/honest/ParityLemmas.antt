@@ -1,23 +1,20 @@
 -- The FEC packets of a drill are true (RFC 5109 8).
-use Rattle.std.proofs.Common.{◌≡◌, ◌≢◌, ℕ, zero, suc, ◌+◌, ◌-◌, ◌*◌, ◌/◌, ◌%◌, ◌^◌, ◌<◌, ◌≤◌, Bool, true, false, All, List, [], ◌∷◌, ◌++◌, length, map, get_or, take, drop, bit_xor, IsPermutation, Some, slice_get, IsSomeAnd, refl, ap, sym, ◌∙◌, subst, arith}
-use Rattle.std.specs.Prelude.{◌==◌, if◌then◌else◌, flat_map, slice_index, max, filter}
-use Rattle.std.specs.Int.{w16, to_be_bytes, from_be_bytes}
+use Rattle.std.proofs.Common.{◌≡◌, ℕ, zero, suc, ◌+◌, ◌-◌, ◌/◌, ◌%◌, ◌^◌, ◌<◌, Bool, true, false, List, [], ◌∷◌, ◌++◌, length, map, get_or, IsPermutation, refl, ap, sym, ◌∙◌, subst, arith}
+use Rattle.std.specs.Prelude.{filter}
+use Rattle.std.specs.Int.{w16, to_be_bytes}
 use Rattle.std.proofs.lemmas.Bool.{false≢true, ne_eqb}
-use Rattle.std.proofs.lemmas.List.{append-nil, length-append}
+use Rattle.std.proofs.lemmas.List.{append-nil}
 use Rattle.std.proofs.lemmas.List.Elements.{All-nil}
 use Rattle.std.proofs.lemmas.List.Sorted.{IsPermutation-refl}
-use Rattle.std.proofs.lemmas.Nat.{from_be_bytes-to_be_bytes_2, xor_lt, xor_of_8}
+use Rattle.std.proofs.lemmas.Nat.{from_be_bytes-to_be_bytes_2, xor_lt}
 use Rattle.vrx_num.specs.Octets.{AreOctets}
-use Rattle.vrx_rtp.specs.Packet.{Packet, octets_of}
-use Rattle.vrx_fec.specs.Making.{head_of}
 use Rattle.vrx_fec.specs.Mask.{is_named, numbers_from, offsets}
 use Rattle.vrx_fec.specs.Payload.{FitsLevel, IsPayload, Level, Payload, has_long_masks, level_octets}
 use Rattle.vrx_fec.specs.Payload as fec
-use Rattle.vrx_fec.specs.Parity.{IsParity, IsTrue, Texts, body_of, fields_of, mask_at, octet_at, offsets_of, recovery, spans_of, xor_of, xor_of_fields, xor_of_octets}
-use Rattle.vrx_sender.specs.Packets.{longest, mask_of, parity, texts_from}
+use Rattle.vrx_fec.specs.Parity.{IsTrue, Texts, body_of, fields_of, mask_at, octet_at, offsets_of, recovery, spans_of, xor_of, xor_of_fields, xor_of_octets}
+use Rattle.vrx_sender.specs.Packets.{longest, mask_of, parity}
 use Rattle.vrx_sender.proofs.FecLemmas.{mask-fits, names-first, not-ahead, offsets-mask, own_of}
 use Rattle.vrx_sender.proofs.NumbersLemmas.{at-numbers, length-mapped}
-use Rattle.vrx_sender.proofs.PacketLemmas.{length-texts}
 use Rattle.vrx_sender.proofs.honest.PartLemmas.{octets-both, octets-first, octets-two}
 
 -- texts are octets

@@ -1,17 +1,16 @@
 -- What a part's packet says: it reads as the packet that it is, and its payload as the part.
-use Rattle.std.proofs.Common.{◌≡◌, ◌≢◌, ℕ, zero, suc, ◌+◌, ◌*◌, ◌/◌, ◌%◌, ◌^◌, ◌<◌, ◌≤◌, Bool, true, false, All, List, [], ◌∷◌, ◌++◌, length, map, Some, None, Ok, refl, ap, sym, ◌∙◌, subst, arith}
+use Rattle.std.proofs.Common.{◌≡◌, ℕ, zero, suc, ◌+◌, ◌*◌, ◌/◌, ◌%◌, ◌<◌, Bool, true, false, List, [], ◌∷◌, ◌++◌, Some, None, Ok, refl, ap, ◌∙◌, arith}
 use Rattle.std.specs.Prelude.{◌==◌, if◌then◌else◌}
 use Rattle.std.specs.Int.{w16, w32, to_be_bytes}
 use Rattle.std.proofs.lemmas.Bool.{eq-eqb, ne_eqb}
 use Rattle.std.proofs.lemmas.List.Elements.{All-append, All-nil}
 use Rattle.vrx_num.specs.Octets.{AreOctets}
 use Rattle.vrx_rtp.specs.Laws.{ReadsPackets, SpellsItself}
-use Rattle.vrx_rtp.specs.Packet.{Fits, Packet, octets_of, fixed_header, marker_and_type}
-use Rattle.vrx_rtp.specs.Reading.{read, reading}
+use Rattle.vrx_rtp.specs.Packet.{Fits, Packet, octets_of, marker_and_type}
+use Rattle.vrx_rtp.specs.Reading.{read}
 use Rattle.std.specs.Result.{result_ok}
 use Rattle.vrx_codec.specs.Octet.{bit}
 use Rattle.vrx_codec.specs.declared.part.Layers.{Layers}
-use Rattle.vrx_codec.specs.Part.{Part}
 use Rattle.vrx_vp8.specs.Descriptor.{read_part}
 use Rattle.vrx_vp8.specs.Writing.{written_part, written_payload}
 use Rattle.vrx_window.specs.Sound.{on_wire}
@@ -44,41 +43,66 @@ second : (marker : Bool) (type : ℕ) → type < 128 → marker_and_type marker 
 second true type fits = omega arith
 second false type fits = omega arith
 
+-- a packet that has a header of twelve octets, and a payload
+abbrev pub plain : Bool → (pt seq ts ssrc : ℕ) → List ℕ → Packet
+plain marker pt seq ts ssrc payload = record {
+  marker = marker;
+  pt = pt;
+  seq = seq;
+  ts = ts;
+  ssrc = ssrc;
+  csrc = [];
+  extension = None;
+  payload = payload;
+  padding = 0;
+}
+
 -- the octets of a packet whose payload is octets
-pub octets-packet : (i f type : ℕ) (marker : Bool) (payload : List ℕ) → type < 128 → AreOctets payload →
-    AreOctets (octets_of (packet i f type marker payload))
-octets-packet i f type marker payload fits are =
+pub octets-plain : (marker : Bool) (pt seq ts ssrc : ℕ) (payload : List ℕ) → pt < 128 → AreOctets payload →
+    AreOctets (octets_of (plain marker pt seq ts ssrc payload))
+octets-plain marker pt seq ts ssrc payload fits are =
     let none : AreOctets [] = All-nil (λ (x : ℕ). x < 256) in
-    let fields : List ℕ = to_be_bytes w16 (wire i) ++ to_be_bytes w32 (timestamp f) ++ to_be_bytes w32 1 in
-    let head : List ℕ = 128 ∷ marker_and_type marker type ∷ fields in
-    let head-are : AreOctets head = octets-cons 128 (marker_and_type marker type ∷ fields) (omega arith)
-    (octets-cons (marker_and_type marker type) fields (second marker type fits)
-    (octets-both (to_be_bytes w16 (wire i) ++ to_be_bytes w32 (timestamp f)) (to_be_bytes w32 1)
-    (octets-both (to_be_bytes w16 (wire i)) (to_be_bytes w32 (timestamp f)) (octets-two (wire i)) (octets-four (timestamp f)))
-    (octets-four 1))) in
+    let fields : List ℕ = to_be_bytes w16 seq ++ to_be_bytes w32 ts ++ to_be_bytes w32 ssrc in
+    let head : List ℕ = 128 ∷ marker_and_type marker pt ∷ fields in
+    let head-are : AreOctets head = octets-cons 128 (marker_and_type marker pt ∷ fields) (omega arith)
+    (octets-cons (marker_and_type marker pt) fields (second marker pt fits)
+    (octets-both (to_be_bytes w16 seq ++ to_be_bytes w32 ts) (to_be_bytes w32 ssrc)
+    (octets-both (to_be_bytes w16 seq) (to_be_bytes w32 ts) (octets-two seq) (octets-four ts))
+    (octets-four ssrc))) in
     octets-both (head ++ [] ++ [] ++ payload) [] (octets-both (head ++ [] ++ []) payload (octets-both (head ++ []) []
     (octets-both head [] head-are none) none) are) none
 
+pub octets-packet : (i f type : ℕ) (marker : Bool) (payload : List ℕ) → type < 128 → AreOctets payload →
+    AreOctets (octets_of (packet i f type marker payload))
+octets-packet i f type marker payload = octets-plain marker type (wire i) (timestamp f) 1 payload
+
 -- ---- reading
 
-fits-packet : (i f type : ℕ) (marker : Bool) (payload : List ℕ) → type < 128 → Fits (packet i f type marker payload)
-fits-packet i f type marker payload fits = record {
-  pt = fits;
-  seq = omega arith;
-  ts = omega arith;
-  ssrc = omega arith;
+fits-plain : (marker : Bool) (pt seq ts ssrc : ℕ) (payload : List ℕ) → pt < 128 → seq < 65536 → ts < 4294967296 →
+    ssrc < 4294967296 → Fits (plain marker pt seq ts ssrc payload)
+fits-plain marker pt seq ts ssrc payload pt-fits seq-fits ts-fits ssrc-fits = record {
+  pt = pt-fits;
+  seq = seq-fits;
+  ts = ts-fits;
+  ssrc = ssrc-fits;
   csrc = record { whole = refl; fit = omega arith };
   extension = tt;
   padding = omega arith;
 }
 
 -- a packet's octets read as it
+pub reads-plain : SpellsItself → ReadsPackets → (marker : Bool) (pt seq ts ssrc : ℕ) (payload : List ℕ) → pt < 128 →
+    seq < 65536 → ts < 4294967296 → ssrc < 4294967296 → AreOctets payload →
+    read (octets_of (plain marker pt seq ts ssrc payload)) ≡ Some (plain marker pt seq ts ssrc payload)
+reads-plain spells reads marker pt seq ts ssrc payload pt-fits seq-fits ts-fits ssrc-fits are =
+    let p : Packet = plain marker pt seq ts ssrc payload in
+    ap result_ok ((reads (octets_of p) p (octets-plain marker pt seq ts ssrc payload pt-fits are)).1
+    (spells p (fits-plain marker pt seq ts ssrc payload pt-fits seq-fits ts-fits ssrc-fits)))
+
 pub reads-packet : SpellsItself → ReadsPackets → (i f type : ℕ) (marker : Bool) (payload : List ℕ) → type < 128 →
     AreOctets payload → read (octets_of (packet i f type marker payload)) ≡ Some (packet i f type marker payload)
 reads-packet spells reads i f type marker payload fits are =
-    let p : Packet = packet i f type marker payload in
-    ap result_ok ((reads (octets_of p) p (octets-packet i f type marker payload fits are)).1
-    (spells p (fits-packet i f type marker payload fits)))
+    reads-plain spells reads marker type (wire i) (timestamp f) 1 payload fits (omega arith) (omega arith) (omega arith) are
 
 -- ---- the payload
 

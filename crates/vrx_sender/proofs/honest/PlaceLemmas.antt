@@ -1,10 +1,9 @@
 -- Where the packets of a frame stand among all packets.
-use Rattle.std.proofs.Common.{◌≡◌, ℕ, zero, suc, ◌+◌, ◌-◌, ◌*◌, ◌<◌, ◌≤◌, List, [], ◌∷◌, ◌++◌, length, map, take, drop, Option, Some, None, slice_get, refl, ap, sym, ◌∙◌, inl, inr, arith}
+use Rattle.std.proofs.Common.{◌≡◌, ℕ, zero, suc, ◌+◌, ◌-◌, ◌<◌, ◌≤◌, List, [], ◌∷◌, ◌++◌, length, drop, Some, slice_get, refl, ap, ◌∙◌, inl, inr, arith}
 use Rattle.std.specs.Option.{option_map}
 use Rattle.std.proofs.lemmas.Bool.{cases_lt}
 use Rattle.std.proofs.lemmas.List.{length-append}
 use Rattle.vrx_rtp.specs.Packet.{Packet}
-use Rattle.vrx_core.specs.honest.Sender.{SentFrame, SentPacket, Media, Fec}
 use Rattle.vrx_sender.specs.Draws.{Drawn}
 use Rattle.vrx_sender.specs.Frames.{octet, octets, packet_count, part_count, sent_frame}
 use Rattle.vrx_sender.specs.Packets.{frames_from, media, media_from, packets_from, parts, sent_media, sent_packets}
@@ -43,7 +42,7 @@ pub length-media : (f count k i : ℕ) (bodies : List (List ℕ)) → length (me
 length-media f count k i [] = refl
 length-media f count k i (body ∷ bodies) = omega (arith, length-media f count (k + 1) (i + 1) bodies)
 
-length-sent : (f k : ℕ) (ps : List Packet) → length (sent_media f k ps) ≡ length ps
+pub length-sent : (f k : ℕ) (ps : List Packet) → length (sent_media f k ps) ≡ length ps
 length-sent f k [] = refl
 length-sent f k (p ∷ ps) = omega (arith, length-sent f (k + 1) ps)
 

@@ -1,26 +1,24 @@
 -- A drill's sender is honest, whatever was drawn.
-use Rattle.std.proofs.Common.{◌≡◌, ◌≢◌, ◌⊎◌, ℕ, zero, suc, ◌+◌, ◌-◌, ◌*◌, ◌%◌, ◌<◌, ◌≤◌, Bool, true, All, List, [], ◌∷◌, ◌++◌, length, map, take, drop, ◌==◌, Option, Some, None, slice_get, IfSome, IsSomeAnd, refl, ap, sym, ◌∙◌, subst, inl, inr, arith}
-use Rattle.std.proofs.lemmas.Bool.{cases_eq, cases_lt}
-use Rattle.std.proofs.lemmas.List.{length-append}
-use Rattle.vrx_num.specs.Octets.{AreOctets}
+use Rattle.std.proofs.Common.{◌≡◌, ◌≢◌, ◌⊎◌, ℕ, zero, suc, ◌+◌, ◌*◌, ◌%◌, ◌<◌, ◌≤◌, true, All, List, [], ◌∷◌, ◌++◌, length, ◌==◌, Option, Some, None, slice_get, IfSome, IsSomeAnd, refl, ap, sym, ◌∙◌, subst, inl, inr, arith}
+use Rattle.std.proofs.lemmas.Bool.{cases_lt}
 use Rattle.vrx_rtp.specs.Laws.{ReadsPackets, SpellsItself}
 use Rattle.vrx_rtp.specs.Packet.{Packet, octets_of}
 use Rattle.vrx_fec.specs.Mask.{numbers_from}
 use Rattle.vrx_fec.specs.Payload.{IsPayload}
 use Rattle.vrx_fec.specs.Parity.{Texts, offsets_of}
 use Rattle.vrx_vp8.specs.Descriptor.{vp8}
-use Rattle.vrx_core.specs.honest.Sender.{SentFrame, SentPacket, Sender, Media, Fec, IsNoPart, wire_of}
+use Rattle.vrx_core.specs.honest.Sender.{Sender, Media, Fec, IsNoPart, wire_of}
 use Rattle.vrx_core.specs.honest.Chain.{InChain}
 use Rattle.vrx_core.specs.honest.HonestSender.{CarriedPart, HasText, HonestSender, IsTrueFec, Travels}
 use Rattle.vrx_sender.specs.Draws.{Drawn}
-use Rattle.vrx_sender.specs.Frames.{is_key, octets, packet_count, part_count, references, sent_frame}
-use Rattle.vrx_sender.specs.Packets.{fec_payload, frames_from, media, media_from, packet, packets_from, longest, parity, parts, payload, sender_of, sent_media, sent_packets, settings, texts_from, wire}
+use Rattle.vrx_sender.specs.Frames.{octets, packet_count, part_count, sent_frame}
+use Rattle.vrx_sender.specs.Packets.{fec_payload, frames_from, media, media_from, packets_from, longest, parity, parts, payload, sender_of, sent_media, sent_packets, settings, texts_from, wire}
 use Rattle.vrx_sender.proofs.FecLemmas.{own_of}
-use Rattle.vrx_sender.proofs.honest.LayersLemmas.{drawn-at, drawn-within, frame-here, frame-none, if-frame, keeps, references-in}
-use Rattle.vrx_sender.proofs.PacketLemmas.{length-packet, length-texts, longest-short}
+use Rattle.vrx_sender.proofs.honest.LayersLemmas.{drawn-at, drawn-within, if-frame, keeps, references-in}
+use Rattle.vrx_sender.proofs.PacketLemmas.{length-packet, length-texts}
 use Rattle.vrx_sender.proofs.honest.ParityLemmas.{AreTexts, parity-octets, parity-spells, parity-true}
 use Rattle.vrx_sender.proofs.honest.PartLemmas.{octets-packet, octets-payload}
-use Rattle.vrx_sender.proofs.honest.PlaceLemmas.{Located, Sized, length-frames, length-octets, length-parts, locate, media-count, packet-at, start, start-later}
+use Rattle.vrx_sender.proofs.honest.PlaceLemmas.{Located, Sized, length-frames, length-octets, locate, media-count, packet-at, start, start-later}
 use Rattle.vrx_sender.proofs.honest.TravelsLemmas.{AreBodies, bodies-are, carries, length-carries, octets-are, travels-is}
 
 -- ---- the packets of a frame, among all of its own
@@ -55,7 +53,7 @@ row : (k : ℕ) (ps : List Packet) → offsets_of (texts_from k ps) ≡ numbers_
 row k [] = refl
 row k (p ∷ ps) = ap (λ (ns : List ℕ). k ∷ ns) (row (k + 1) ps)
 
-texts-are : (f count k i first : ℕ) (bodies : List (List ℕ)) → AreBodies bodies →
+pub texts-are : (f count k i first : ℕ) (bodies : List (List ℕ)) → AreBodies bodies →
     AreTexts (texts_from first (media_from f count k i bodies))
 texts-are f count k i first [] are = tt
 texts-are f count k i first (body ∷ bodies) are = (
@@ -63,12 +61,12 @@ texts-are f count k i first (body ∷ bodies) are = (
   texts-are f count (k + 1) (i + 1) (first + 1) bodies are.1,
 )
 
-short-media : (f count k i first : ℕ) (bodies : List (List ℕ)) → AreBodies bodies → longest (texts_from first (media_from f count k i bodies)) ≤ 1006
+pub short-media : (f count k i first : ℕ) (bodies : List (List ℕ)) → AreBodies bodies → longest (texts_from first (media_from f count k i bodies)) ≤ 1006
 short-media f count k i first [] are = omega arith
 short-media f count k i first (body ∷ bodies) are =
     omega (arith, length-packet i f 96 (k + 1 == count) (payload f k body), are.0.few, short-media f count (k + 1) (i + 1) (first + 1) bodies are.1)
 
-bodies-of : (f size : ℕ) → 0 < size → AreBodies (parts (part_count (length (octets f size))) (octets f size))
+pub bodies-of : (f size : ℕ) → 0 < size → AreBodies (parts (part_count (length (octets f size))) (octets f size))
 bodies-of f size some =
     bodies-are (part_count (length (octets f size))) (octets f size) (omega (arith, length-octets f size, some))
     (omega (arith, length-octets f size)) (octets-are f size)

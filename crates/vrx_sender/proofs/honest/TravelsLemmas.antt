@@ -1,19 +1,18 @@
 -- A frame travels in its packets: they are its parts, and join to its bytes.
-use Rattle.std.proofs.Common.{◌≡◌, ◌≢◌, ◌↔◌, ℕ, zero, suc, ◌+◌, ◌-◌, ◌*◌, ◌/◌, ◌%◌, ◌<◌, ◌≤◌, Bool, true, false, ◌&&◌, All, Contains, min, List, [], ◌∷◌, ◌++◌, length, map, take, drop, Option, Some, None, Ok, slice_get, slice_index_or, refl, ap, sym, ◌∙◌, subst, inl, inr, arith}
+use Rattle.std.proofs.Common.{◌≡◌, ◌↔◌, ℕ, zero, suc, ◌+◌, ◌*◌, ◌%◌, ◌<◌, ◌≤◌, Bool, true, false, ◌&&◌, Contains, List, [], ◌∷◌, ◌++◌, length, map, take, drop, Some, Ok, slice_get, slice_index_or, refl, ap, sym, ◌∙◌, subst, arith}
 use Rattle.std.specs.Prelude.{◌==◌, if◌then◌else◌, flat_map, slice_index}
 use Rattle.std.specs.Option.{option_map}
 use Rattle.std.proofs.lemmas.Bool.{eq-eqb, eqb-true, false≢true, ne_eqb}
-use Rattle.std.proofs.lemmas.List.{append-nil, length-drop, length-take, take-append-drop}
+use Rattle.std.proofs.lemmas.List.{length-drop, length-take, take-append-drop}
 use Rattle.std.proofs.lemmas.List.Elements.{All-drop, All-take}
 use Rattle.vrx_num.specs.Octets.{AreOctets}
 use Rattle.vrx_rtp.specs.Laws.{ReadsPackets, SpellsItself}
-use Rattle.vrx_rtp.specs.Packet.{Packet, octets_of}
+use Rattle.vrx_rtp.specs.Packet.{octets_of}
 use Rattle.vrx_codec.specs.Part.{Part}
-use Rattle.vrx_codec.specs.declared.part.Start.TheVariants.{Yes, No}
 use Rattle.vrx_vp8.specs.Descriptor.{vp8}
 use Rattle.vrx_vp8.specs.Writing.{written_part}
 use Rattle.vrx_window.specs.Sound.{on_wire}
-use Rattle.vrx_core.specs.honest.Sender.{SentFrame, SentPacket, Sender, Media, wire_of}
+use Rattle.vrx_core.specs.honest.Sender.{SentFrame, Sender, Media, wire_of}
 use Rattle.vrx_core.specs.honest.HonestSender.{AreParts, CarriedPart, IsMedia, IsPart, SaysRightly, Travels}
 use Rattle.vrx_sender.specs.Frames.{is_key, octet, octets, part_count, place, sent_frame}
 use Rattle.vrx_sender.specs.Packets.{media, media_from, packet, parts, payload, sent_media, settings}
