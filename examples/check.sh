@@ -3,8 +3,8 @@
 # Compared are the status (0 if no file status is there) and, as far as the example has them, the text with the
 # transcript beside the capture, and the frames that an encoder made (timestamp, kind, size, SHA-256). Then the lists of
 # lines, each of which makes a capture; the files that tools made, which must come again; the lines of docs/USING.md,
-# which are those of a test; what is too long to be kept as a file; and each end that can be brought about: its status,
-# and its line on standard error.
+# which are those of a test; what is too long to be kept as a file; drills; and each end that can be brought about: its
+# status, and its line on standard error.
 set -u
 cd "$(dirname "$0")/.." || exit 1
 passed=0 failed=0
@@ -144,10 +144,10 @@ again $call/transcript /dev/null tools/made_calls stopped_decoder transcript
 
 # the Rattle of docs/USING.md is what the test of the same name runs
 if cmp -s <(awk '/^```rust/ { f = 1; next } /^```/ { f = 0 } f' docs/USING.md) \
-  <(awk '/^\/\/ begin/ { f = 1; next } /^\/\/ end/ { f = 0 } f' crates/vrx_program/src/tests/using.rt); then
+  <(awk '/^\/\/ begin/ { f = 1; next } /^\/\/ end/ { f = 0 } f' crates/vrx_trials/src/tests/using.rt); then
   pass
 else
-  fail "docs/USING.md: other lines than crates/vrx_program/src/tests/using.rt"
+  fail "docs/USING.md: other lines than crates/vrx_trials/src/tests/using.rt"
 fi
 
 # The calls that are too long to be kept, with their transcripts.
@@ -239,6 +239,24 @@ says live 2 $'error line 3 kind\n' "a bad line after an event"
 printf '%s\n' "$head" > "$long"
 says live 0 "" "no events"
 
+# Drills: each summary is the one that another program counted, and 10,000 frames need no more memory than a few do.
+for summary in examples/drills/*.summary; do
+  name=${summary##*/} name=${name%.summary}
+  ./vrx drill "${name%-*}" "${name#*-}" < /dev/null > "$text" 2> /dev/null
+  if [ "$?" = 0 ] && cmp -s "$text" "$summary"; then
+    pass
+  else
+    fail "drill ${name%-*} ${name#*-}: another summary"
+    diff "$summary" "$text" | head -n 10
+  fi
+done
+(ulimit -v 16384 && crates/vrx_program/out/vrx_program drill 7 10000 < /dev/null > "$text")
+if [ "$?" = 0 ] && [ "$(head -n 1 "$text")" = "drill 7 10000" ] && [ "$(wc -l < "$text")" = 8 ]; then
+  pass
+else
+  fail "a drill of 10,000 frames: $(tail -n 1 "$text" | cut -c1-60)"
+fi
+
 # told STATUS LINE INPUT OUTPUT WORD..: with these words the program ends so, and standard error has this line
 told() {
   local wanted=$1 line=$2 input=$3 output=$4 status
@@ -252,7 +270,7 @@ told() {
   fi
 }
 
-usage="usage: vrx replay|live|inspect < CAPTURE"
+usage="usage: vrx replay|live|inspect < CAPTURE, or vrx drill SEED FRAMES"
 bad="vrx: a line of the capture is bad, or its settings are refused"
 told 0 "" $capture /dev/null replay
 told 0 "" $capture /dev/null inspect
@@ -263,6 +281,11 @@ told 1 "$usage" $capture /dev/null replay inspect
 told 1 "$usage" $capture /dev/null live twice
 told 1 "$usage" $capture /dev/null Inspect
 told 1 "$usage" $capture /dev/null $'replay\xff'
+told 1 "$usage" $capture /dev/null drill 7 0
+told 1 "$usage" $capture /dev/null drill 7 10001
+told 1 "$usage" $capture /dev/null drill 07 1
+told 1 "$usage" $capture /dev/null drill 18446744073709551616 1
+told 0 "" examples /dev/null drill 1 1
 told 2 "$bad" examples/bad_lines/kind.capture /dev/null replay
 told 2 "$bad" examples/bad_lines/kind.capture /dev/null inspect
 told 2 "$bad" examples/bad_line_after_a_tick/capture /dev/null replay
@@ -272,5 +295,6 @@ told 3 "vrx: a read failed" examples /dev/null live
 told 4 "vrx: a write failed" $capture /dev/full replay
 told 4 "vrx: a write failed" $capture /dev/full inspect
 told 4 "vrx: a write failed" $capture /dev/full live
+told 4 "vrx: a write failed" $capture /dev/full drill 1 1
 echo "examples: $passed passed, $failed failed"
 [ "$failed" = 0 ]

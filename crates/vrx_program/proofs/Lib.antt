@@ -18,3 +18,4 @@ pub mod CallRows
 pub mod LiveReadLemmas
 pub mod LivePlayLemmas
 pub mod LiveEndLemmas
+pub mod DrillLemmas

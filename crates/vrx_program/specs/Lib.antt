@@ -2,6 +2,9 @@ pub mod Outcome
 pub mod Job
 pub mod Heads
 pub mod Counts
+pub mod Counting
+pub mod DrillText
+pub mod HonestDrill
 pub mod Replay
 pub mod Replays
 pub mod Inspect

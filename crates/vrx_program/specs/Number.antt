@@ -14,7 +14,7 @@ number_of NoMemory = 5
 -- the line on standard error: none if the run was done
 abbrev pub cause_of : Status → Option (List ℕ)
 cause_of Done = None
-cause_of BadUsage = Some (codes "usage: vrx replay|live|inspect < CAPTURE")
+cause_of BadUsage = Some (codes "usage: vrx replay|live|inspect < CAPTURE, or vrx drill SEED FRAMES")
 cause_of BadCapture = Some (codes "vrx: a line of the capture is bad, or its settings are refused")
 cause_of ReadFault = Some (codes "vrx: a read failed")
 cause_of WriteFault = Some (codes "vrx: a write failed")

@@ -3,17 +3,20 @@
 //! `run` is the program over any source and sink, and carries its theorem; `main` runs it over the standard streams.
 #![tactic(auto)]
 
-ghost use Rattle.std.specs.Prelude.{◌≡◌, ◌≤◌, ◌↔◌, ◌⊎◌, List, map, IfSome, is_some};
+ghost use Rattle.std.specs.Prelude.{◌≡◌, ◌≤◌, ◌↔◌, ◌⊎◌, ℕ, List, map, IfSome, is_some};
 ghost use Rattle.std.specs.String.{string_bytes};
 ghost use Rattle.vrx_io.specs.Faults.{Rose};
 ghost use Rattle.vrx_core.specs.honest.Sender.{Sender};
 ghost use Rattle.vrx_core.specs.honest.HonestNetwork.{Origin};
 ghost use Rattle.vrx_program.specs.Words.{IsWord, gives};
 ghost use Rattle.vrx_program.specs.Counts.{IsCounted};
+ghost use Rattle.vrx_program.specs.DrillText.{DrillEnds, IsDrill, drill_text};
+ghost use Rattle.vrx_program.specs.HonestDrill.{HonestDrill};
 ghost use Rattle.vrx_program.specs.Ends.{Ends};
 ghost use Rattle.vrx_program.specs.Runs.{ReadsInStep};
 ghost use Rattle.vrx_program.specs.HonestLines.{IsHonestCapture, HonestLines};
 
+mod drill;
 mod driver;
 mod inspect;
 mod job;
@@ -21,10 +24,12 @@ mod laws;
 mod live;
 mod replay;
 mod status;
+mod summary;
 #[cfg(test)]
 mod tests;
 mod word;
 
+use crate::drill::run_drill;
 use crate::driver::drive;
 use crate::inspect::Inspect;
 pub use crate::laws::vp8_begins_evidently;
@@ -42,10 +47,12 @@ use std::{env, io};
 use vrx_core::honest_call;
 use vrx_io::{Sink, Source, StdSink, StdSource};
 use vrx_live::NoGate;
+use vrx_sender::{MOST_HONEST_FRAMES, honest_network, honest_sender};
 use vrx_text::lines_join;
 
 /// Runs the program: `replay` reads a capture from the source and writes its transcript to the sink, and `inspect`
-/// writes what each of its datagrams is.
+/// writes what each of its datagrams is. `drill SEED FRAMES` makes a call from a number, replays it and writes a summary;
+/// it reads nothing.
 ///
 /// What the clauses say of content, they say if the source tells its bytes. What the sink took is what it took in
 /// this call.
@@ -55,8 +62,10 @@ pub fn run<S: Source, K: Sink>(
     source: &mut S,
     sink: &mut K,
 ) -> Status
-    // The words: any others than one word that the program knows are bad usage, and then nothing is read or written.
-    ensures usage { (result ≡ Status.BadUsage) ↔ ((word : Word) → ¬ IsWord word (map string_bytes words.now)) }
+    // The words: any others than one word that the program knows, and those of a drill, are bad usage, and then nothing
+    // is read or written.
+    ensures usage { (result ≡ Status.BadUsage) ↔ (((word : Word) → ¬ IsWord word (map string_bytes words.now))
+        × ((seed frames : ℕ) → ¬ IsDrill seed frames (map string_bytes words.now))) }
     ensures untouched { result ≡ Status.BadUsage →
         (source.new ≡ source.old) × (sink.new ≡ sink.old) }
 
@@ -85,6 +94,19 @@ pub fn run<S: Source, K: Sink>(
         ¬ Rose (S.faults source.old) (S.faults source.new) → ¬ Rose (K.faults sink.old) (K.faults sink.new) →
         IfSome (S.left source.old) (λ capture. (result ≡ (gives word capture).status) ⊎ (result ≡ Status.NoMemory)) }
 
+    // A drill: nothing is read, and the text is the summary whose counts are those of the machine's replies to the
+    // drill's events. With no fault all of it is written, unless memory runs out.
+    ensures drill_reads { (seed frames : ℕ) → IsDrill seed frames (map string_bytes words.now) → source.new ≡ source.old }
+    ensures drill_ends { (seed frames : ℕ) → IsDrill seed frames (map string_bytes words.now) →
+        DrillEnds result (drill_text seed frames) (K.taken sink.old) (K.taken sink.new) }
+    ensures drill_complete { (seed frames : ℕ) → IsDrill seed frames (map string_bytes words.now) →
+        ¬ Rose (K.faults sink.old) (K.faults sink.new) → (result ≡ Status.Done) ⊎ (result ≡ Status.NoMemory) }
+
+    // A drill of at most 6,000 frames is an honest call, whatever the seed: an honest network brings what an honest
+    // sender sent, and all that is said below of an honest call holds of the replies that the summary counts.
+    ensures drill_honest { (seed frames : ℕ) → IsDrill seed frames (map string_bytes words.now) →
+        frames ≤ MOST_HONEST_FRAMES → HonestDrill seed frames }
+
     // The honest call: if an honest network took the datagrams of the capture from one honest sender, the frames
     // pulled are that sender's, byte for byte, in order, each at most once, from a keyframe on, after all their
     // references, and notready comes exactly if no frame is ready. Each event that gives up a packet has a pli line,
@@ -95,12 +117,15 @@ pub fn run<S: Source, K: Sink>(
 {
     // A law: what the machine answers in an honest call is the sender's, in order and after its references.
     honest_call();
+    // Two laws: the sender of a drill is honest, and so is the network of a drill of at most 6,000 frames.
+    honest_sender();
+    honest_network();
     // A law: the lines of whole lines and of what stands after them join, and so does what they give.
     lines_join();
     match word_of(words) {
         Some(Word::Replay) => drive::<Replay, S, K>(alloc, source, sink),
         Some(Word::Inspect) => drive::<Inspect, S, K>(alloc, source, sink),
-        None => Status::BadUsage,
+        None => run_drill(alloc, words, sink),
     }
 }
 

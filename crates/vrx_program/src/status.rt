@@ -42,7 +42,9 @@ impl Status {
     {
         match self {
             Status::Done => None,
-            Status::BadUsage => Some("usage: vrx replay|live|inspect < CAPTURE"),
+            Status::BadUsage => Some(
+                "usage: vrx replay|live|inspect < CAPTURE, or vrx drill SEED FRAMES",
+            ),
             Status::BadCapture => Some(
                 "vrx: a line of the capture is bad, or its settings are refused",
             ),
