@@ -159,6 +159,7 @@ fn packet_of(datagram: &[u8]) -> Result<RtpView<'_>, RtpFault>
 ///
 /// A datagram that is none has the first fault that applies, in the order of [`RtpFaultKind`]. The values of the
 /// padding octets other than the last aren't kept.
+#[inline(always)]
 pub fn read(datagram: &[u8]) -> Result<RtpView<'_>, RtpFault>
     // What is read, seen as a packet, wherever it lies in memory.
     ensures reads { view_result result ≡ reading datagram.now }

@@ -10,6 +10,12 @@ use crate::rtp_view::{Extension, RtpView};
 use std::alloc::Global;
 use vrx_num::NoMemory;
 
+/// How many octets each header has at least.
+const HEADER: usize = 12;
+
+/// How many octets stand before the words of a header extension.
+const EXTENSION_HEAD: usize = 4;
+
 /// The padding octets but the last, of which there are at most so many.
 const FILLER: [u8; 254] = [0; 254];
 
@@ -97,6 +103,19 @@ fn push_padding(out: &mut Vec<u8>, padding: u8) -> Result<(), NoMemory>
     Ok(())
 }
 
+/// The room that a packet's octets take, so that memory is taken once.
+fn room_for(packet: &RtpView<'_>) -> usize {
+    let extension = match packet.extension {
+        None => 0,
+        Some(extension) => extension.words.len().saturating_add(EXTENSION_HEAD),
+    };
+    HEADER
+        .saturating_add(packet.csrc.len())
+        .saturating_add(extension)
+        .saturating_add(packet.payload.len())
+        .saturating_add(usize::from(packet.padding))
+}
+
 /// The octets that a packet spells, with padding octets of 0 but for the last.
 fn octets_of(alloc: Global, packet: &RtpView<'_>) -> Result<Vec<u8>, NoMemory>
     requires pt { packet.now.pt < 128 }
@@ -105,7 +124,7 @@ fn octets_of(alloc: Global, packet: &RtpView<'_>) -> Result<Vec<u8>, NoMemory>
     ensures spelled { IfOk result (λ datagram. datagram.items ≡ octets_of (view packet.now)) }
     ensures fits { OnOk result (Fits (view packet.now)) }
 {
-    let mut out = Vec::new(alloc);
+    let mut out = Vec::with_capacity(alloc, room_for(packet))?;
     out.extend_from_slice(&fixed_header(packet))?;
     out.extend_from_slice(packet.csrc)?;
     push_extension(&mut out, &packet.extension)?;
