@@ -1,20 +1,18 @@
 -- The deliverable run with the least first number.
-use Rattle.std.proofs.Common.{◌≡◌, ℕ, ◌+◌, ◌<◌, ◌≤◌, Bool, true, false, cond, List, [], ◌∷◌, ◌++◌, length, drop, get_or, refl, sym, ◌∙◌, ap, subst, arith}
+use Rattle.std.proofs.Common.{◌≡◌, ℕ, ◌≤◌, Bool, true, false, cond, List, [], ◌∷◌, ◌++◌, refl, sym, ◌∙◌, ap, subst, arith}
 use Rattle.std.specs.Prelude.{◌&&◌, not, nat_lt, slice_get, Option, Some, None, is_none, IfSome}
 use Rattle.std.specs.List.{All, Contains, filter, find, list_all}
 use Rattle.std.proofs.lemmas.Bool.Decides.{nat_tests}
 use Rattle.std.proofs.lemmas.Grind.{common_steps}
-use Rattle.std.proofs.lemmas.List.{drop_all, drop_more}
-use Rattle.std.proofs.lemmas.List.Sums.{AllPass-from_list_all}
 use Rattle.std.proofs.lemmas.List.Elements.{All-contains, All-contains_itself, All-filter, All-head, Contains-append_right}
 use Rattle.vrx_codec.specs.declared.run.Place.{Place}
 use Rattle.vrx_codec.specs.declared.run.Run.{Run}
 use Rattle.vrx_refs.specs.declared.sighting.Sighting.{Sighting}
 use Rattle.vrx_refs.specs.References.{has_layer, is_evident, is_passed_before, is_some_pulled, judge_delta, Key, Needs, Unknown}
 use Rattle.vrx_buffer.specs.Frames.{is_deliverable, is_ready, next_of}
-use Rattle.vrx_buffer.specs.Kept.{AreKept, have_layers, is_before, is_key, is_layered, is_plain, lesser}
+use Rattle.vrx_buffer.specs.Kept.{AreKept, is_before, is_key, is_layered, is_plain, lesser}
 use Rattle.vrx_buffer.specs.Order.{rises_by}
-use Rattle.vrx_buffer.proofs.OrderLemmas.{all-filter, all-pass, beyond, beyond-less, rises-drop}
+use Rattle.vrx_buffer.proofs.OrderLemmas.{all-filter, all-pass, beyond}
 
 abbrev first : Run → ℕ
 first run = run.first

@@ -1,6 +1,6 @@
 -- The runs that stand: whole frames that came and were not handed out yet, in the order of their first numbers. A run
 -- has the numbers of its packets, which are extended sequence numbers (RFC 3550 A.1).
-use Rattle.std.specs.Prelude.{◌≡◌, ℕ, ◌≤◌, Bool, true, false, not, ◌==◌, nat_le, List, [], ◌∷◌, length, map, Option}
+use Rattle.std.specs.Prelude.{◌≡◌, ℕ, ◌≤◌, Bool, true, not, ◌==◌, nat_le, List, length, map, Option}
 use Rattle.std.specs.List.{All, find, filter}
 use Rattle.vrx_num.specs.declared.limits.TheConstants.{WINDOW}
 use Rattle.vrx_codec.specs.declared.run.Run.{Run}

@@ -61,9 +61,9 @@ impl Frames {
         requires layer { has_layer run.layers ≡ true }
         ensures runs { self.new ≡ with_run run self.old }
     {
-        self.keys.set(run, run.key);
-        self.plain.set(run, is_plain(&run));
-        self.layered.set(run, is_layered(&run));
+        self.keys.set(&run, run.key);
+        self.plain.set(&run, is_plain(&run));
+        self.layered.set(&run, is_layered(&run));
     }
 
     /// The deliverable run with the least first number, with the numbers up to `passed` passed. The contract also says

@@ -103,9 +103,10 @@ impl Queue {
     }
 
     /// Puts a run in its place, in place of one with the same first number, or only removes that one.
-    pub(crate) fn set(&mut self, run: Run, stands: bool)
+    #[inline(always)]
+    pub(crate) fn set(&mut self, run: &Run, stands: bool)
         requires room { length self.old < WINDOW }
-        ensures set { self.new ≡ (if stands then with_run run self.old else without run.first self.old) }
+        ensures set { self.new ≡ (if stands then with_run run.now self.old else without run.now.first self.old) }
     {
         if stands {
             self.put(run);
@@ -115,13 +116,13 @@ impl Queue {
     }
 
     /// Puts a run in its place, in place of one with the same first number.
-    fn put(&mut self, run: Run)
+    fn put(&mut self, run: &Run)
         requires room { length self.old < WINDOW }
-        ensures put { self.new ≡ with_run run self.old }
+        ensures put { self.new ≡ with_run run.now self.old }
     {
         match place_of(&self.runs, run.first) {
-            Ok(at) => self.runs[at] = run,
-            Err(at) => match self.runs.insert(at, run) {
+            Ok(at) => self.runs[at] = *run,
+            Err(at) => match self.runs.insert(at, *run) {
                 Ok(()) => {}
                 Err(_) => unreachable!(),
             },

@@ -1,8 +1,8 @@
 use Rattle.std.proofs.Common.{◌∙◌, ap, subst, sym}
-use Rattle.std.specs.List.{Contains, find}
+use Rattle.std.specs.List.{Contains}
 use Rattle.std.specs.Prelude.{IfSome}
 use Rattle.vrx_codec.specs.declared.run.Run.{Run}
-use Rattle.vrx_buffer.specs.Frames.{AreStanding, is_deliverable, next_of}
+use Rattle.vrx_buffer.specs.Frames.{AreStanding, next_of}
 use Rattle.vrx_buffer.specs.Kept.{is_key, is_layered, is_plain, lesser, runs_of}
 use Rattle.vrx_buffer.proofs.NextLemmas.{among-first, among-lesser, among-part, among-queue, kept-next}
 use Rattle.vrx_buffer.proofs.PartLemmas.{all-layers, all-plain, kept-standing}
