@@ -1,6 +1,6 @@
 //! The engine: three events and what each answers.
 
-ghost use Rattle.std.specs.Prelude.{◌≡◌, ◌⊎◌, ◌+◌, ◌^◌, ◌<◌, ◌≤◌, ◌↔◌, max, List, [], ◌∷◌, Some, None, OnOk, OnErr, IfOk, IfSome, IfErr, IsOk, IsErr, IsErrOf, IsSome};
+ghost use Rattle.std.specs.Prelude.{◌≡◌, ◌⊎◌, ◌+◌, ◌^◌, ◌<◌, ◌≤◌, ◌↔◌, max, true, List, [], ◌∷◌, Some, None, OnOk, OnErr, IfOk, IfSome, IfErr, IsOk, IsErr, IsErrOf, IsSome};
 ghost use Rattle.vrx_window.specs.Content.{contents_of};
 ghost use Rattle.vrx_frames.specs.Run.{Run as RunOf};
 ghost use Rattle.vrx_core.specs.machine.Machine.{ToDatagram, ToTick, ToPull, IfFrame, frame_of as frame_of_run, latest, nack_for, pli_for, reply, snapshots, what_of};
@@ -104,21 +104,27 @@ fn feedback_of(settings: &Settings, numbers: &[u64], key: bool) -> Feedback
     }
 }
 
-/// Makes feedback that asks for nothing ask for these numbers, and for a keyframe or not. It has room for 496 octets, so
-/// that it is changed where it stands, and only if there is something to ask for.
+/// Whether feedback asks for nothing.
+fn asks_for_nothing(feedback: &Feedback) -> bool
+    ensures { result ≡ true → (feedback.now.nack ≡ None) × (feedback.now.pli ≡ None) }
+{
+    feedback.nack.is_none() && feedback.pli.is_none()
+}
+
+/// Makes feedback ask for these numbers, and for a keyframe or not. It has room for 496 octets, so that it is changed
+/// where it stands, and only if it asked for something or is to.
 fn ask_for(feedback: &mut Feedback, settings: &Settings, numbers: &[u64], key: bool)
     requires near { AreNear numbers.now }
-    requires nothing { (feedback.old.nack ≡ None) × (feedback.old.pli ≡ None) }
     ensures nack { feedback.new.nack ≡ nack_for settings.now numbers.now }
     ensures pli { feedback.new.pli ≡ pli_for settings.now key }
 {
-    if numbers.len() == 0 && !key {
+    if numbers.len() == 0 && !key && asks_for_nothing(feedback) {
         return;
     }
     fill(feedback, settings, numbers, key);
 }
 
-/// The same where there is something to ask for: a function of its own, since what it builds is large.
+/// The same whatever it asked for: a function of its own, since what it builds is large.
 #[inline(never)]
 fn fill(feedback: &mut Feedback, settings: &Settings, numbers: &[u64], key: bool)
     requires near { AreNear numbers.now }
@@ -261,6 +267,35 @@ impl<C: Codec> Engine<C> {
         ensures refused { IsErr (verdict_of self.old.settings C.meaning (contents_of self.old.window) bytes.now) →
             IsOk result × (self.new ≡ record self.old { events = self.old.events + 1; clock = max self.old.clock moment }) }
     {
+        let mut handled = Handled::new(self.alloc);
+        self.datagram_into(moment, bytes, &mut handled)?;
+        Ok(handled)
+    }
+
+    /// The same, with the reply in the place of one that the caller keeps: a reply has room for a NACK, and isn't moved
+    /// so. `NoMemory` leaves that reply as it is, too.
+    pub fn datagram_into(
+        &mut self,
+        moment: u64,
+        bytes: &[u8],
+        handled: &mut Handled,
+    ) -> Result<(), NoMemory>
+        requires room { self.old.events < MOST_EVENTS }
+        ensures stands { (h : List Event) → StandsFor C.meaning self.old h →
+            OnOk result (StandsFor C.meaning self.new (Event.Datagram moment bytes.now ∷ h)) }
+        ensures reply { (h : List Event) → StandsFor C.meaning self.old h →
+            OnOk result (ToDatagram handled.new ≡ reply self.old.settings C.meaning h (Event.Datagram moment bytes.now)) }
+        ensures what { OnOk result
+            (handled.new.what ≡ what_of (verdict_of self.old.settings C.meaning (contents_of self.old.window) bytes.now)) }
+        ensures exactly { (what : What) → OnOk result
+            ((handled.new.what ≡ what) ↔ MeansAnswer self.old.settings C.meaning (contents_of self.old.window) bytes.now what) }
+        ensures counts { OnOk result ((self.new.events ≡ self.old.events + 1) ×
+            (self.new.clock ≡ max self.old.clock moment)) }
+        ensures settings { self.new.settings ≡ self.old.settings }
+        ensures no_memory { OnErr result ((self.new ≡ self.old) × (handled.new ≡ handled.old)) }
+        ensures refused { IsErr (verdict_of self.old.settings C.meaning (contents_of self.old.window) bytes.now) →
+            IsOk result × (self.new ≡ record self.old { events = self.old.events + 1; clock = max self.old.clock moment }) }
+    {
         // Laws: what each answer means; and what the runs are, which rise by their first numbers.
         reasons_mean();
         runs_are();
@@ -272,19 +307,12 @@ impl<C: Codec> Engine<C> {
             &mut self.due.ask,
             &outcome.arrival,
         );
-        let repaired = repaired_by(self.alloc, outcome.arrival);
+        handled.what = outcome.what;
+        handled.repaired = repaired_by(self.alloc, outcome.arrival);
         let numbers = self.due.ask.as_slice();
         let settings = self.assembler.settings();
-        let mut handled = Handled {
-            what: outcome.what,
-            repaired,
-            feedback: Feedback {
-                nack: None,
-                pli: None,
-            },
-        };
         ask_for(&mut handled.feedback, settings, numbers, key);
-        Ok(handled)
+        Ok(())
     }
 
     /// Takes the time, in milliseconds. What is missing is asked for again at the interval of the settings, ten times in

@@ -1,6 +1,6 @@
 //! What the receiver answers.
 
-ghost use Rattle.std.specs.Prelude.{◌≡◌, [], ◌∷◌, ◌++◌, OnOk, OnErr};
+ghost use Rattle.std.specs.Prelude.{◌≡◌, [], ◌∷◌, ◌++◌, None, OnOk, OnErr};
 
 use std::alloc::Global;
 use std::marker::Model;
@@ -79,6 +79,22 @@ pub struct Handled {
     pub repaired: Numbers,
     /// The feedback that is to be sent.
     pub feedback: Feedback,
+}
+
+impl Handled {
+    /// A reply to be written over. It says what it says of RTCP, and asks for nothing. It takes no memory.
+    pub fn new(alloc: Global) -> Handled
+        ensures { result ≡ record { what = What.Rtcp; repaired = []; feedback = record { nack = None; pli = None } } }
+    {
+        Handled {
+            what: What::Rtcp,
+            repaired: Numbers::new(alloc),
+            feedback: Feedback {
+                nack: None,
+                pli: None,
+            },
+        }
+    }
 }
 
 /// The reply to a pull.

@@ -1,5 +1,5 @@
 -- In an honest call the order of the repairs makes no difference.
-use Rattle.std.proofs.Common.{◌≡◌, ℕ, zero, suc, ◌≤◌, true, List, [], ◌∷◌, map, Option, Some, None, Result, Ok, refl, sym, subst}
+use Rattle.std.proofs.Common.{◌≡◌, ℕ, zero, suc, ◌≤◌, true, List, [], ◌∷◌, map, Option, Some, None, Result, refl, sym, subst}
 use Rattle.std.specs.Option.{option_map_or}
 use Rattle.vrx_num.specs.Extended.{GivesMeant}
 use Rattle.vrx_num.specs.Pictures.{GivesPicture}
@@ -15,14 +15,12 @@ use Rattle.vrx_repair.specs.Source.{Source}
 use Rattle.vrx_repair.specs.Step.{IsClosed, first_step, repairs, step, with_repair, with_repairs}
 use Rattle.vrx_repair.specs.Truth.{TrueRepairs}
 use Rattle.vrx_core.specs.machine.Machine.{Snapshot, after_datagram, latest, snapshots, source_in, with_repaired}
-use Rattle.vrx_core.specs.machine.Verdict.{verdict}
 use Rattle.vrx_core.specs.honest.Sender.{Sender}
 use Rattle.vrx_core.specs.honest.HonestSender.{HonestSender}
 use Rattle.vrx_core.specs.honest.HonestNetwork.{Origin, IsNear, packets_taken}
 use Rattle.vrx_core.specs.honest.HonestTaken.{IsRepaired, RepairsInAnyOrder}
 use Rattle.vrx_core.specs.declared.settings.Settings.{Settings}
 use Rattle.vrx_core.specs.declared.event.Event.{Event}
-use Rattle.vrx_core.specs.declared.event.Event.TheVariants.{Datagram}
 use Rattle.vrx_core.specs.declared.original.NotTaken.{NotTaken}
 use Rattle.vrx_core.proofs.machine.ClosedLemmas.{IsDone, done-made, packets-rise, within-placed}
 use Rattle.vrx_core.proofs.machine.VerdictLemmas.{fresh-is, verdict-taken}

@@ -88,9 +88,9 @@ pub record KeepsRightly (settings : Settings) (codec : Meaning) (sender : Sender
   -- the places told are those of the sender's frames, their pictures and one constant
   pub told : TellsRightly sender (packets_taken settings codec h origins) (latest (snapshots settings codec h)).told
 
--- The order of the repairs makes no difference: if a datagram is taken, and in the window in which its packet is placed
--- step after step is made, whichever it is, until none is left (RFC 5109 9), then the same numbers are available, with
--- the same contents, as after the datagram.
+-- The order of the repairs makes no difference. Say that a datagram is taken, and its packet is placed in the window:
+-- whichever steps (RFC 5109 9) are made from there, one after the other, until none is left, the same numbers are
+-- available in the end, with the same contents, as after the datagram.
 abbrev pub RepairsInAnyOrder : Settings → Meaning → List Event → (moment : ℕ) → (octets : List ℕ) → Type 0
 RepairsInAnyOrder settings codec h moment octets =
     (n : ℕ) (content : Content) →
@@ -114,7 +114,7 @@ pub record TakesPacket (settings : Settings) (codec : Meaning) (sender : Sender)
       × IsSomeAnd (slice_get sender.packets i)
       (λ packet. what_in (reply settings codec h (Datagram moment octets)) ≡ Some
       (answer_taken n (content_sent packet)))
-  -- and it is repaired what is repaired in any other order
+  -- and what is available then doesn't depend on the order of the repairs
   pub any_order : RepairsInAnyOrder settings codec h moment octets
 
 -- each datagram of the sender is taken and answered rightly

@@ -18,8 +18,8 @@ use Rattle.vrx_core.proofs.machine.ReasonLemmas.{answers_mean}
 use Rattle.vrx_core.proofs.step.ArrivalLemmas.{arrival-below, arrival-fresh, arrival-short}
 use Rattle.vrx_core.proofs.step.EventLemmas.{datagram-refused, datagram-settings, datagram-counts, newest-beyond}
 use Rattle.vrx_core.proofs.step.WantedLemmas.{datagram-reply, datagram-stands-for}
-use Rattle.vrx_core.proofs.engine.Engine.datagram.Given as given
-use Rattle.vrx_core.proofs.engine.Engine.datagram.Goals as goal
+use Rattle.vrx_core.proofs.engine.Engine.datagram_into.Given as given
+use Rattle.vrx_core.proofs.engine.Engine.datagram_into.Goals as goal
 
 pub ask-key-requires-clause-below : goal.ask-key-requires-clause-below
 ask-key-requires-clause-below g c = let i = c.self.inside in
@@ -35,7 +35,6 @@ pub ask_for-requires : goal.ask_for-requires
 ask_for-requires g c = record {
   near = subst AreNear (sym (c.as_slice-numbers.ensures.value ∙ ap (λ (due : Due). due.ask.items) c.deref.ensures
       ∙ c.ask-key.ensures.numbers)) c.ask-key.ensures.near;
-  nothing = (refl, refl);
 }
 
 pub invariant_of-self-2 : goal.invariant_of-self-2
@@ -88,20 +87,20 @@ returns-clause-reply g c =
     subst (λ (p : EngineParts). (h : List Event) → StandsFor g.C.Codec.meaning p h →
     ToDatagram (record {
       what = c.in_ok-outcome.outcome.what;
-      repaired = c.repaired_by-repaired.result;
+      repaired = c.repaired_by.result;
       feedback = c.ask_for.new.feedback;
     })
     ≡ reply p.settings g.C.Codec.meaning h (Datagram c.args.moment c.args.bytes.now)) c.self.view_is
     (λ h stands.
     (λ j. ToDatagram (record {
       what = c.in_ok-outcome.outcome.what;
-      repaired = c.repaired_by-repaired.result;
+      repaired = c.repaired_by.result;
       feedback = record { nack = (nack-is g c) j; pli = (pli-is g c) j };
     }))
     ∙ datagram-reply c.runs_are.ensures c.runs_rise.ensures g.C.Codec.meaning i.assembler a i.requests c.args.moment
     c.args.bytes.now c.in_ok-outcome.outcome h c.in_ok-outcome.ensures.handled c.in_ok-outcome.ensures.before
     c.in_ok-outcome.ensures.after c.ask-key.ensures.sound stands
-    c.repaired_by-repaired.result c.repaired_by-repaired.ensures)
+    c.repaired_by.result c.repaired_by.ensures)
 
 pub returns-clause-settings : goal.returns-clause-settings
 returns-clause-settings g c =
