@@ -17,9 +17,9 @@ use Rattle.vrx_sender.specs.declared.laws.TheConstants.{MOST_HONEST_FRAMES}
 use Rattle.vrx_sender.specs.Drill.{drill_events, drill_sender}
 use Rattle.vrx_sender.specs.Laws.{NetworkIsHonest, SenderIsHonest}
 use Rattle.vrx_sender.specs.Packets.{settings}
-use Rattle.vrx_program.specs.Counting.{IsCounting}
+use Rattle.vrx_program.specs.Counting.{IsCounting, IsFew}
 use Rattle.vrx_program.specs.HonestDrill.{HonestDrill}
-use Rattle.vrx_program.specs.DrillText.{DrillEnds, IsDrill, IsFew, nothing, plus, summary_of, tally}
+use Rattle.vrx_program.specs.DrillText.{DrillEnds, IsDrill, nothing, plus, summary_of, tally}
 use Rattle.vrx_io.specs.Faults.{Rose}
 use Rattle.vrx_program.specs.Counts.{IsCounted}
 use Rattle.vrx_program.specs.Words.{IsWord}

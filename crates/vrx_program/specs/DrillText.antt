@@ -1,5 +1,5 @@
 -- The words of a drill, and what it writes: a summary of the transcript of its capture.
-use Rattle.std.specs.Prelude.{◌≡◌, ℕ, ◌+◌, ◌*◌, ◌^◌, ◌<◌, ◌≤◌, Bool, true, false, if◌then◌else◌, List, [], ◌∷◌, ◌++◌, codes, length, Option, is_some}
+use Rattle.std.specs.Prelude.{◌≡◌, ℕ, ◌+◌, ◌^◌, ◌<◌, ◌≤◌, Bool, true, false, if◌then◌else◌, List, [], ◌∷◌, ◌++◌, codes, length, Option, is_some}
 use Rattle.std.specs.Fmt.{decimal}
 use Rattle.vrx_io.specs.Sink.{with_more, TakesShortPrefix}
 use Rattle.vrx_vp8.specs.Descriptor.{vp8}
@@ -93,13 +93,3 @@ DrillEnds statuses.NoMemory text before after = after ≡ before
 DrillEnds statuses.BadUsage text before after = ⊥
 DrillEnds statuses.BadCapture text before after = ⊥
 DrillEnds statuses.ReadFault text before after = ⊥
-
--- the counts of so many replies are no greater than these
-pub record IsFew (n : ℕ) (s : Summary) : Type 0 where
-  pub datagrams : s.datagrams ≤ n * 2 ^ 64
-  pub taken : s.taken ≤ n * 2 ^ 64
-  pub repaired : s.repaired ≤ n * 2 ^ 64
-  pub nacks : s.nacks ≤ n * 2 ^ 64
-  pub plis : s.plis ≤ n * 2 ^ 64
-  pub frames : s.frames ≤ n * 2 ^ 64
-  pub octets : s.octets ≤ n * 2 ^ 64

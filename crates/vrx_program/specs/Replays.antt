@@ -11,15 +11,15 @@ use Rattle.vrx_program.specs.declared.replay.Replay.TheVariants.{Vp8, H264}
 
 -- what it does with each event
 abbrev pub replaying_by : Replay → Answering
-replaying_by (Vp8 engine) = replaying engine.settings vp8
-replaying_by (H264 engine) = replaying engine.settings h264
+replaying_by (Vp8 engine _) = replaying engine.settings vp8
+replaying_by (H264 engine _) = replaying engine.settings h264
 
 -- it answered these events, the newest first: its engine stands for them
 abbrev pub HasReplayed : Replay → List Event → Type 0
-HasReplayed (Vp8 engine) h = StandsFor vp8 engine h
-HasReplayed (H264 engine) h = StandsFor h264 engine h
+HasReplayed (Vp8 engine _) h = StandsFor vp8 engine h
+HasReplayed (H264 engine _) h = StandsFor h264 engine h
 
 -- how many events it answered
 abbrev pub replayed_count : Replay → ℕ
-replayed_count (Vp8 engine) = engine.events
-replayed_count (H264 engine) = engine.events
+replayed_count (Vp8 engine _) = engine.events
+replayed_count (H264 engine _) = engine.events

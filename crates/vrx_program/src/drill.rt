@@ -12,7 +12,8 @@ ghost use Rattle.vrx_sender.specs.Drill.{drill_events};
 ghost use Rattle.vrx_sender.specs.Packets.{settings};
 ghost use Rattle.vrx_sender.specs.declared.drill.TheConstants.{MOST_FRAMES};
 ghost use Rattle.vrx_program.specs.Counts.{IsCounted};
-ghost use Rattle.vrx_program.specs.DrillText.{DrillEnds, IsDrill, IsFew, drill_text, plus, summary_of, tally};
+ghost use Rattle.vrx_program.specs.Counting.{IsFew};
+ghost use Rattle.vrx_program.specs.DrillText.{DrillEnds, IsDrill, drill_text, plus, summary_of, tally};
 
 use crate::status::Status;
 use crate::summary::{

@@ -14,19 +14,20 @@ ghost use Rattle.vrx_program.specs.Replays.{replaying_by, HasReplayed, replayed_
 use crate::job::{Job, Unanswered};
 use std::alloc::Global;
 use vrx_codec::Codec;
-use vrx_core::{Engine, Event, NewFault, Settings};
+use vrx_core::{Engine, Event, Handled, NewFault, Settings};
 use vrx_h264::H264;
 use vrx_num::NoMemory;
 use vrx_text::{CodecName, ErrorReason, read_settings, write_handled, write_pulled, write_tick};
 use vrx_vp8::Vp8;
 
-/// A replay: the engine of the codec that the first line says.
+/// A replay: the engine of the codec that the first line says, and its last reply to a datagram, which the next one
+/// takes the place of.
 #[derive(Drop)]
 pub(crate) enum Replay {
     /// It receives VP8.
-    Vp8(Engine<Vp8>),
+    Vp8(Engine<Vp8>, Handled),
     /// It receives H.264.
-    H264(Engine<H264>),
+    H264(Engine<H264>, Handled),
 }
 
 /// Puts the text of an engine's reply to a datagram after a text.
@@ -35,6 +36,7 @@ pub(crate) enum Replay {
 #[inline(never)]
 fn take_datagram<C: Codec>(
     engine: &mut Engine<C>,
+    handled: &mut Handled,
     k: u32,
     moment: u64,
     bytes: &[u8],
@@ -48,11 +50,8 @@ fn take_datagram<C: Codec>(
     ensures settings { engine.new.settings ≡ engine.old.settings }
     ensures counted { OnOk result (engine.new.events ≡ engine.old.events + 1) }
 {
-    // By reference, since a reply is large.
-    match &engine.datagram(moment, bytes) {
-        Ok(handled) => write_handled(text, k, handled),
-        Err(NoMemory) => Err(NoMemory),
-    }
+    engine.datagram_into(moment, bytes, handled)?;
+    write_handled(text, k, handled)
 }
 
 /// The same of a tick.
@@ -98,6 +97,7 @@ fn take_pull<C: Codec>(
 /// The same of an event of whatever kind.
 fn reply_of<C: Codec>(
     engine: &mut Engine<C>,
+    handled: &mut Handled,
     k: u32,
     event: &Event,
     text: &mut Vec<u8>,
@@ -112,7 +112,7 @@ fn reply_of<C: Codec>(
 {
     match event {
         Event::Datagram { moment, bytes } => {
-            take_datagram(engine, k, *moment, bytes.as_slice(), text)
+            take_datagram(engine, handled, k, *moment, bytes.as_slice(), text)
         }
         Event::Tick { moment } => take_tick(engine, k, *moment, text),
         Event::Pull { moment } => take_pull(engine, k, *moment, text),
@@ -164,11 +164,11 @@ impl Job for Replay {
         };
         match codec {
             CodecName::Vp8 => match engine_for::<Vp8>(alloc, settings) {
-                Ok(engine) => Ok(Replay::Vp8(engine)),
+                Ok(engine) => Ok(Replay::Vp8(engine, Handled::new(alloc))),
                 Err(why) => Err(why),
             },
             CodecName::H264 => match engine_for::<H264>(alloc, settings) {
-                Ok(engine) => Ok(Replay::H264(engine)),
+                Ok(engine) => Ok(Replay::H264(engine, Handled::new(alloc))),
                 Err(why) => Err(why),
             },
         }
@@ -176,8 +176,8 @@ impl Job for Replay {
 
     fn answer(&mut self, k: u32, event: &Event, text: &mut Vec<u8>) -> Result<(), NoMemory> {
         match self {
-            Replay::Vp8(engine) => reply_of(engine, k, event, text),
-            Replay::H264(engine) => reply_of(engine, k, event, text),
+            Replay::Vp8(engine, handled) => reply_of(engine, handled, k, event, text),
+            Replay::H264(engine, handled) => reply_of(engine, handled, k, event, text),
         }
     }
 }

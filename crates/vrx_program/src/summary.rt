@@ -4,7 +4,9 @@ ghost use Rattle.std.specs.Prelude.{◌≡◌, ◌+◌, ◌*◌, ◌++◌, ◌^�
 ghost use Rattle.std.specs.Fmt.{decimal};
 ghost use Rattle.vrx_core.specs.machine.Machine.{ToDatagram, ToTick, ToPull};
 ghost use Rattle.vrx_text.specs.Transcript.{line_feed};
-ghost use Rattle.vrx_program.specs.DrillText.{IsFew, plus, summary_line, summary_text, tally, was_taken};
+ghost use Rattle.vrx_num.specs.declared.limits.TheConstants.{MOST_EVENTS};
+ghost use Rattle.vrx_program.specs.Counting.{IsFew};
+ghost use Rattle.vrx_program.specs.DrillText.{plus, summary_line, summary_text, tally, was_taken};
 
 use itoa::Buffer;
 use std::alloc::Global;
@@ -108,7 +110,7 @@ pub(crate) fn tally_of_pulled(pulled: &Pulled) -> Summary
 impl Summary {
     /// The counts of so many replies, and of one more.
     pub(crate) fn plus(self, one: Summary) -> Summary
-        requires few { IsFew (2 ^ 30) self }
+        requires few { IsFew MOST_EVENTS self }
         requires one { IsFew 1 one }
         ensures sum { result ≡ plus self one }
     {

@@ -49,9 +49,9 @@ media-at f k (p ∷ ps) (suc j) lt =
 
 -- ---- the texts of a frame's packets
 
-row : (k : ℕ) (ps : List Packet) → offsets_of (texts_from k ps) ≡ numbers_from k (length ps)
-row k [] = refl
-row k (p ∷ ps) = ap (λ (ns : List ℕ). k ∷ ns) (row (k + 1) ps)
+offsets-are : (k : ℕ) (ps : List Packet) → offsets_of (texts_from k ps) ≡ numbers_from k (length ps)
+offsets-are k [] = refl
+offsets-are k (p ∷ ps) = ap (λ (ns : List ℕ). k ∷ ns) (offsets-are (k + 1) ps)
 
 pub texts-are : (f count k i first : ℕ) (bodies : List (List ℕ)) → AreBodies bodies →
     AreTexts (texts_from first (media_from f count k i bodies))
@@ -141,7 +141,7 @@ module _ (spells : SpellsItself) (reads : ReadsPackets) (ds : List Drawn) (sized
         near = omega (arith, few);
         base_is = omega (arith, few);
         texts = texts;
-        true_is = parity-true (wire i) n fits some few texts count are short (row 0 ps ∙ ap (numbers_from 0) (media-count f i d.size));
+        true_is = parity-true (wire i) n fits some few texts count are short (offsets-are 0 ps ∙ ap (numbers_from 0) (media-count f i d.size));
         protects = has-texts (sender_of ds) f 0 i 0 ps
             (λ j lt. part-here f j d is (omega (arith, lt, media-count f i d.size))) n (i + n) (omega arith);
       }
